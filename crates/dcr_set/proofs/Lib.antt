@@ -1,0 +1,5 @@
+pub mod LeastLemmas
+pub mod BitLemmas
+pub mod SetLemmas
+pub mod StandsLemmas
+pub mod NumbersLemmas

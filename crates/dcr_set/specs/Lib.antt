@@ -1,0 +1,5 @@
+pub mod Least
+pub mod EventSet
+pub mod Bits
+pub mod EventSetModel
+pub mod EventIterModel

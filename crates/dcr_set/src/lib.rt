@@ -1,0 +1,15 @@
+//! Sets of events as words of bits, and the numbers by which events and sites are known.
+#![tactic(auto)]
+
+mod id;
+mod iter;
+mod laws;
+mod set;
+#[cfg(test)]
+mod tests;
+mod words;
+
+pub use id::{EventId, MAX_ATOMS, NoMemory, SiteId};
+pub use iter::EventIter;
+pub use laws::set_is_its_numbers;
+pub use set::EventSet;
