@@ -1,0 +1,5 @@
+pub mod Count
+pub mod ReadStop
+pub mod Status
+pub mod StdSink
+pub mod StdSource

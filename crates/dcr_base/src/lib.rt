@@ -1,0 +1,24 @@
+//! The traits of the outside: where bytes come from and where they go, the loops that read and
+//! write them to the end, and the status that a run ends with.
+#![tactic(auto)]
+
+mod failed;
+mod reading;
+mod sink;
+mod source;
+mod status;
+mod std_sink;
+mod std_source;
+mod writing;
+
+pub use failed::Failed;
+pub use reading::{ReadStop, read_all};
+pub use sink::Sink;
+pub use source::Source;
+pub use status::Status;
+pub use std_sink::StdSink;
+pub use std_source::StdSource;
+pub use writing::{WriteFault, write_all};
+
+#[cfg(test)]
+mod tests;

@@ -1,0 +1,24 @@
+ghost use Rattle.std.specs.Prelude.{◌<◌, ◌≤◌, ℕ, List, Option, length, IfOk, OnErr};
+ghost use Rattle.std.specs.Io.{WritesAtMost};
+ghost use Rattle.std.specs.Io.KnownBytes.{WriteAppends};
+ghost use Rattle.dcr_base.specs.Count.{Rose};
+
+use crate::Failed;
+
+/// Where bytes go: an output, or one direction of a link.
+pub trait Sink {
+    /// The bytes taken so far, where the sink tells them.
+    ghost taken: { Self → Option (List ℕ) };
+
+    /// How many writes have failed.
+    ghost write_faults: { Self → ℕ };
+
+    /// Takes the first bytes of `bytes`, and answers how many: at least one where there is one.
+    /// `Failed` comes when the outside fails; it takes no byte.
+    fn write(&mut self, bytes: &[u8]) -> Result<usize, Failed>
+        ensures within { WritesAtMost result bytes.now }
+        ensures appended { WriteAppends (taken self.old) (taken self.new) result bytes.now }
+        ensures at_least_one { 0 < length bytes.now → IfOk result (λ n. 1 ≤ n) }
+        ensures never_falls { write_faults self.old ≤ write_faults self.new }
+        ensures counted { OnErr result (Rose (write_faults self.old) (write_faults self.new)) };
+}

@@ -1,0 +1,46 @@
+ghost use Rattle.std.specs.Prelude.{◌<◌, ◌≤◌, ◌++◌, Some, codes, length, take, IfErr, OnOk, OnErr};
+ghost use Rattle.std.specs.Fmt.{decimal};
+ghost use Rattle.std.specs.Io.KnownBytes.{Appends};
+ghost use Rattle.dcr_base.specs.Count.{Rose};
+
+use crate::{Failed, Sink};
+use std::error::Error;
+use std::fmt;
+
+/// A sink failed before it had taken all bytes.
+#[derive(Clone, Copy, Debug, PartialEq, Eq)]
+pub struct WriteFault {
+    /// How many bytes it took before, from the front.
+    pub written: usize,
+}
+
+impl fmt::Display for WriteFault {
+    ghost output = { λ fault.
+        Some (codes "the output failed after " ++ decimal fault.written ++ codes " bytes") };
+
+    fn fmt<W: fmt::Write>(&self, f: &mut fmt::Formatter<W>) -> fmt::Result {
+        write!(f, "the output failed after {} bytes", self.written)
+    }
+}
+
+impl Error for WriteFault {}
+
+/// Writes all the bytes. It takes no memory. `WriteFault` comes where a write failed; the sink then
+/// has the first `written` bytes and no more.
+pub fn write_all<O: Sink>(sink: &mut O, bytes: &[u8]) -> Result<(), WriteFault>
+    ensures all { OnOk result (Appends (O.taken sink.old) (O.taken sink.new) bytes.now) }
+    ensures front { IfErr result (λ fault.
+        Appends (O.taken sink.old) (O.taken sink.new) (take fault.written bytes.now)) }
+    ensures not_all { IfErr result (λ fault. fault.written < length bytes.now) }
+    ensures counted { OnErr result (Rose (O.write_faults sink.old) (O.write_faults sink.new)) }
+    ensures never_falls { O.write_faults sink.old ≤ O.write_faults sink.new }
+{
+    let mut written = 0;
+    while written < bytes.len() {
+        match sink.write(&bytes[written..]) {
+            Ok(n) => written += n,
+            Err(Failed) => return Err(WriteFault { written }),
+        }
+    }
+    Ok(())
+}
