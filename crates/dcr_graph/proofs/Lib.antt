@@ -1,0 +1,4 @@
+pub mod TableLemmas
+pub mod GraphLemmas
+pub mod BoolLemmas
+pub mod LocalLaws

@@ -1,0 +1,30 @@
+-- Why an atom can't be executed at a marking, and what a marking waits for.
+use Rattle.std.specs.Prelude.{ℕ, Bool, not, ◌&&◌, Option, Some, None, option_map, if◌then◌else◌}
+use Rattle.dcr_set.specs.Least.{least}
+use Rattle.dcr_set.specs.EventSet.{has}
+use Rattle.dcr_graph.specs.Rules.{Rules}
+use Rattle.dcr_graph.specs.declared.kind.Kind.TheVariants as kind
+use Rattle.dcr_graph.specs.declared.kind.Cause.{Cause}
+use Rattle.dcr_graph.specs.declared.kind.Cause.TheVariants.{Excluded, Condition, Milestone}
+use Rattle.dcr_graph.specs.declared.marking.Marking.{Marking}
+
+-- c is a condition event of e that is included and not executed
+abbrev pub is_open_condition : Rules → Marking → ℕ → ℕ → Bool
+is_open_condition G M e c = G.related kind.Condition c e && (has M.included c && not (has M.executed c))
+
+-- m is a milestone event of e that is included and pending
+abbrev pub is_pending_milestone : Rules → Marking → ℕ → ℕ → Bool
+is_pending_milestone G M e m = G.related kind.Milestone m e && (has M.included m && has M.pending m)
+
+-- the condition found blocks, else the milestone found
+abbrev pub first_block : Option ℕ → Option ℕ → Option Cause
+first_block (Some c) milestone = Some (Condition c)
+first_block None milestone = option_map Milestone milestone
+
+-- the cause that blocks e, the first that holds: excluded; the least open condition; the least pending milestone
+abbrev pub cause : Rules → Marking → ℕ → Option Cause
+cause G M e = if has M.included e then first_block (least G.atoms (is_open_condition G M e)) (least G.atoms (is_pending_milestone G M e)) else Some Excluded
+
+-- the least atom that is included and pending; the marking is accepting where there is none
+abbrev pub waits : ℕ → Marking → Option ℕ
+waits atoms M = least atoms (λ a. has M.included a && has M.pending a)

@@ -1,0 +1,10 @@
+pub mod Names
+pub mod Rules
+pub mod Cause
+pub mod Step
+pub mod Projection
+pub mod Pairs
+pub mod Rows
+pub mod TableModel
+pub mod GraphValue
+pub mod GraphModel

@@ -1,0 +1,17 @@
+//! Names, the flat relation of a graph, markings, and why an event is blocked.
+#![tactic(auto)]
+
+mod graph;
+mod kind;
+mod label;
+mod marking;
+mod name;
+mod table;
+#[cfg(test)]
+mod tests;
+
+pub use graph::{Graph, GraphStop};
+pub use kind::{Cause, Kind};
+pub use label::{Label, LabelStop};
+pub use marking::{Marking, SiteMark};
+pub use name::{Name, NameStop};
