@@ -1,0 +1,140 @@
+ghost use Rattle.std.specs.Prelude.{◌≡◌, ◌<◌, IsTrue, length};
+ghost use Rattle.dcr_site.specs.MarksAfter.{marks_after};
+
+use crate::projection::Projection;
+use crate::rows::Effects;
+use dcr_graph::{Cause, Marking, SiteMark};
+use dcr_set::EventId;
+use std::marker::Model;
+
+/// What a site answers when it is asked whether an event may be executed.
+#[derive(Clone, Copy, Debug, PartialEq, Eq)]
+pub enum Decision {
+    /// The site doesn't own the event.
+    NotHere,
+    /// The event is blocked, by this cause.
+    Blocked(Cause),
+    /// The event may be executed.
+    Enabled,
+}
+
+/// One site: its projection and its marks. It decides and applies from these alone, hands out none of its
+/// relations, and can't be copied. Contracts see its projection and its marks; what they say of a graph
+/// holds where the site stands at a marking of that graph (`StandsAt`).
+#[derive(Drop)]
+pub struct Site {
+    projection: Projection,
+    mark: SiteMark,
+}
+
+impl Model for Site {
+    ghost use Rattle.dcr_site.specs.Seen.{Seen};
+
+    ghost Value = { Seen };
+
+    ghost use Rattle.dcr_site.specs.SiteModel.{seen_of, HasMarks};
+
+    ghost view = { seen_of };
+
+    ghost invariant = { HasMarks };
+}
+
+impl Site {
+    ghost use Rattle.std.specs.Prelude.{◌≡◌, ◌<◌, List, Bool, ℕ, true, length};
+    ghost use Rattle.dcr_set.specs.EventSet.{has};
+    ghost use Rattle.dcr_graph.specs.Rules.{Rules};
+    ghost use Rattle.dcr_graph.specs.Step.{step};
+    ghost use Rattle.dcr_graph.specs.Projection.{HasRoom};
+    ghost use Rattle.dcr_graph.specs.declared.marking.Marking.{Marking as Marks};
+    ghost use Rattle.dcr_site.specs.Local.{cut_to, projection_of};
+    ghost use Rattle.dcr_site.specs.Seen.{StandsAt};
+    ghost use Rattle.dcr_site.specs.Decision.{decision, owned_waits};
+
+    /// The site with this projection, whose marks are those of a marking over as many atoms. Where the
+    /// projection is that of a graph to an owned set, the site stands at that marking.
+    pub fn open(projection: Projection, start: &Marking) -> Site
+        requires { HasRoom (length projection.own) start.now }
+        ensures projection { result.projection ≡ projection }
+        ensures mark { result.mark ≡ cut_to projection start.now }
+        ensures stands { (G : Rules) (S : List Bool) → projection ≡ projection_of G S → StandsAt G S start.now result }
+    {
+        let mark = projection.start(start);
+        Site { projection, mark }
+    }
+
+    /// What the site answers to an execution of the event, which is an atom.
+    pub fn decide(&self, e: EventId) -> Decision
+        requires { e < length self.now.projection.own }
+        ensures { (G : Rules) (S : List Bool) (M : Marks) → StandsAt G S M self.now → result ≡ decision G S M e }
+    {
+        if !self.projection.own().contains(e) {
+            return Decision::NotHere;
+        }
+        if !self.mark.included.contains(e) {
+            return Decision::Blocked(Cause::Excluded);
+        }
+        let guards = self.projection.guards(e);
+        let mark = &self.mark;
+        if let Some(c) = guards
+            .condition
+            .first_common_without(&mark.included, &mark.executed)
+        {
+            return Decision::Blocked(Cause::Condition(c));
+        }
+        if let Some(m) = guards
+            .milestone
+            .first_common_three(&mark.included, &mark.pending)
+        {
+            return Decision::Blocked(Cause::Milestone(m));
+        }
+        Decision::Enabled
+    }
+
+    /// Applies an execution of an event of the alphabet to the marks.
+    pub fn apply(&mut self, e: EventId)
+        requires { has self.old.projection.alphabet e ≡ true }
+        ensures projection { self.new.projection ≡ self.old.projection }
+        ensures stepped { (G : Rules) (S : List Bool) (M : Marks) → StandsAt G S M self.old → StandsAt G S (step G M e) self.new }
+    {
+        let tracked = self.projection.tracked_ex().contains(e);
+        apply_masks(&mut self.mark, self.projection.effects(e), tracked, e);
+    }
+
+    /// The marks.
+    pub fn mark(&self) -> SiteMark
+        ensures { result ≡ self.now.mark }
+    {
+        self.mark.copy()
+    }
+
+    /// The least owned event that is included and pending. None exactly where there is none.
+    pub fn first_waiting(&self) -> Option<EventId>
+        ensures { (G : Rules) (S : List Bool) (M : Marks) → StandsAt G S M self.now → result ≡ owned_waits G S M }
+    {
+        self.projection
+            .own()
+            .first_common_three(&self.mark.included, &self.mark.pending)
+    }
+}
+
+// Does to the marks what the masks of the event say.
+fn apply_masks(mark: &mut SiteMark, effects: &Effects, tracked: bool, e: EventId)
+    requires executed { IsTrue tracked → e < length mark.old.executed }
+    requires cancel { length effects.now.cancel ≡ length mark.old.pending }
+    requires response { length effects.now.response ≡ length mark.old.pending }
+    requires include { length effects.now.include ≡ length mark.old.included }
+    requires exclude { length effects.now.exclude ≡ length mark.old.included }
+    ensures marks { mark.new ≡ marks_after effects.now tracked mark.old e }
+    ensures executed { length mark.new.executed ≡ length mark.old.executed }
+    ensures pending { length mark.new.pending ≡ length mark.old.pending }
+    ensures included { length mark.new.included ≡ length mark.old.included }
+{
+    if tracked {
+        mark.executed.insert(e);
+    }
+    mark.pending.remove(e);
+    mark.pending.minus_with(&effects.cancel);
+    mark.pending.union_with(&effects.response);
+    mark.included.union_with(&effects.include);
+    mark.included.minus_with(&effects.exclude);
+}

@@ -1,0 +1,360 @@
+// Worked rows: what sites decide and mark in small graphs, told by hand, and that each call can succeed.
+ghost use Rattle.std.specs.Prelude.{◌≡◌, ◌<◌, length, IfOk};
+ghost use Rattle.dcr_graph.specs.Projection.{HasRoom};
+
+use crate::{Decision, Site, project};
+use dcr_graph::{Cause, Graph, Kind, Label, Marking, Name};
+use dcr_set::{EventId, EventSet};
+use std::alloc::Global;
+use std::test::Fail;
+
+const PM: EventId = EventId(0);
+
+const S: EventId = EventId(1);
+
+const GM: EventId = EventId(2);
+
+// The doctor prescribes and signs, and then the nurse is to give.
+const MEDICATION: [(Kind, u16, u16); 4] = [
+    (Kind::Condition, 0, 1),
+    (Kind::Condition, 1, 2),
+    (Kind::Response, 0, 1),
+    (Kind::Response, 0, 2),
+];
+
+// Which of the atoms 0, 1, 2 are in the set.
+fn members(set: &EventSet) -> [bool; 3] {
+    [set.contains(PM), set.contains(S), set.contains(GM)]
+}
+
+fn event_set(numbers: &[u16]) -> EventSet
+    ensures { length result ≡ 3 }
+{
+    let mut set = EventSet::new(3);
+    for number in numbers {
+        if *number < 3 {
+            set.insert(EventId(*number));
+        }
+    }
+    set
+}
+
+// Nothing executed, these pending, all included.
+fn opening(pending: &[u16]) -> Marking
+    ensures { HasRoom 3 result }
+{
+    Marking {
+        executed: event_set(&[]),
+        pending: event_set(pending),
+        included: event_set(&[0, 1, 2]),
+    }
+}
+
+// Three atoms, pm, s and gm, with these pairs.
+fn graph_of(alloc: Global, pairs: &[(Kind, u16, u16)]) -> Result<Graph, Fail>
+    ensures { IfOk result (λ graph. length graph.names ≡ 3) }
+{
+    let names = Vec::from_array(
+        alloc,
+        [
+            Name::read(alloc, "pm")?,
+            Name::read(alloc, "s")?,
+            Name::read(alloc, "gm")?,
+        ],
+    )?;
+    let labels = Vec::from_array(
+        alloc,
+        [
+            Label::read(alloc, "Prescribe medicine")?,
+            Label::read(alloc, "Sign")?,
+            Label::read(alloc, "Give medicine")?,
+        ],
+    )?;
+    let mut related = Vec::new(alloc);
+    for pair in pairs {
+        if pair.1 < 3 && pair.2 < 3 {
+            related.push((pair.0, EventId(pair.1), EventId(pair.2)))?;
+        }
+    }
+    Ok(Graph::new(alloc, names, labels, related)?)
+}
+
+// The site that owns these, opened at this marking, once it has heard of these executions.
+fn site_after(
+    alloc: Global,
+    graph: &Graph,
+    own: &EventSet,
+    start: &Marking,
+    executed: &[u16],
+) -> Result<Site, Fail>
+    requires atoms { length graph.now.names ≡ 3 }
+    requires own { length own.now ≡ 3 }
+    requires start { HasRoom 3 start.now }
+    ensures { IfOk result (λ site. length site.projection.own ≡ 3) }
+{
+    let projection = project(alloc, graph, own)?;
+    let alphabet = projection.alphabet().copy();
+    let mut site = Site::open(projection, start);
+    for number in executed {
+        let e = EventId(*number);
+        if alphabet.contains(e) {
+            site.apply(e);
+        }
+    }
+    Ok(site)
+}
+
+#[test]
+fn projections_keep_what_their_sites_need(rt: HostRuntime) -> Result<(), Fail> {
+    let graph = graph_of(rt.alloc(), &MEDICATION)?;
+    let doctor = project(rt.alloc(), &graph, &event_set(&[0, 1]))?;
+    let prescribed_and_signed = [true, true, false];
+    assert_eq!(rt; members(doctor.own()), prescribed_and_signed);
+    assert_eq!(rt; members(doctor.tracked_in()), prescribed_and_signed);
+    assert_eq!(rt; members(doctor.tracked_ex()), prescribed_and_signed);
+    assert_eq!(rt; members(doctor.tracked_re()), prescribed_and_signed);
+    assert_eq!(rt; members(doctor.alphabet()), prescribed_and_signed);
+    let nurse = project(rt.alloc(), &graph, &event_set(&[2]))?;
+    assert_eq!(rt; members(nurse.own()), [false, false, true]);
+    assert_eq!(rt; members(nurse.tracked_in()), [false, true, true]);
+    assert_eq!(rt; members(nurse.tracked_ex()), [false, true, true]);
+    assert_eq!(rt; members(nurse.tracked_re()), [false, false, true]);
+    assert_eq!(rt; members(nurse.alphabet()), [true, true, true]);
+    Ok(())
+}
+
+// What a site answers, for which event it waits, and which events are executed, pending and included there.
+type Told = (Decision, Option<EventId>, [[bool; 3]; 3]);
+
+// A site that owns some of three atoms with these pairs, once it has heard of these executions.
+fn told(
+    alloc: Global,
+    pairs: &[(Kind, u16, u16)],
+    own: &[u16],
+    pending: &[u16],
+    executed: &[u16],
+    asked: u16,
+) -> Result<Told, Fail>
+    requires { asked < 3 }
+{
+    let graph = graph_of(alloc, pairs)?;
+    let site = site_after(alloc, &graph, &event_set(own), &opening(pending), executed)?;
+    let mark = site.mark();
+    let marks = [
+        members(&mark.executed),
+        members(&mark.pending),
+        members(&mark.included),
+    ];
+    Ok((site.decide(EventId(asked)), site.first_waiting(), marks))
+}
+
+const NONE: [bool; 3] = [false, false, false];
+
+const ALL: [bool; 3] = [true, true, true];
+
+#[test]
+fn a_nurse_waits_for_a_doctor(rt: HostRuntime) -> Result<(), Fail> {
+    let tracked = [false, true, true];
+    let opened = told(rt.alloc(), &MEDICATION, &[2], &[], &[], 2)?;
+    assert_eq!(rt;
+        opened,
+        (
+            Decision::Blocked(Cause::Condition(S)),
+            None,
+            [NONE, NONE, tracked]
+        )
+    );
+    let prescribed = told(rt.alloc(), &MEDICATION, &[2], &[], &[0], 2)?;
+    assert_eq!(rt;
+        prescribed,
+        (
+            Decision::Blocked(Cause::Condition(S)),
+            Some(GM),
+            [NONE, [false, false, true], tracked]
+        )
+    );
+    let signed = told(rt.alloc(), &MEDICATION, &[2], &[], &[0, 1], 2)?;
+    assert_eq!(rt;
+        signed,
+        (
+            Decision::Enabled,
+            Some(GM),
+            [[false, true, false], [false, false, true], tracked]
+        )
+    );
+    let given = told(rt.alloc(), &MEDICATION, &[2], &[], &[0, 1, 2], 2)?;
+    assert_eq!(rt; given, (Decision::Enabled, None, [tracked, NONE, tracked]));
+    Ok(())
+}
+
+#[test]
+fn a_doctor_prescribes_and_signs(rt: HostRuntime) -> Result<(), Fail> {
+    let tracked = [true, true, false];
+    let elsewhere = told(rt.alloc(), &MEDICATION, &[0, 1], &[], &[], 2)?;
+    assert_eq!(rt; elsewhere, (Decision::NotHere, None, [NONE, NONE, tracked]));
+    let unsigned = told(rt.alloc(), &MEDICATION, &[0, 1], &[], &[], 1)?;
+    assert_eq!(rt;
+        unsigned,
+        (
+            Decision::Blocked(Cause::Condition(PM)),
+            None,
+            [NONE, NONE, tracked]
+        )
+    );
+    let opened = told(rt.alloc(), &MEDICATION, &[0, 1], &[], &[], 0)?;
+    assert_eq!(rt; opened, (Decision::Enabled, None, [NONE, NONE, tracked]));
+    let prescribed = told(rt.alloc(), &MEDICATION, &[0, 1], &[], &[0], 1)?;
+    assert_eq!(rt;
+        prescribed,
+        (
+            Decision::Enabled,
+            Some(S),
+            [[true, false, false], [false, true, false], tracked]
+        )
+    );
+    let signed = told(rt.alloc(), &MEDICATION, &[0, 1], &[], &[0, 1], 1)?;
+    assert_eq!(rt; signed, (Decision::Enabled, None, [tracked, NONE, tracked]));
+    Ok(())
+}
+
+#[test]
+fn responses_come_after_cancels(rt: HostRuntime) -> Result<(), Fail> {
+    let first = [true, false, false];
+    let second = [false, true, false];
+    let own_response = told(
+        rt.alloc(),
+        &[(Kind::Response, 0, 0)],
+        &[0, 1, 2],
+        &[],
+        &[0],
+        0,
+    )?;
+    assert_eq!(rt;
+        own_response,
+        (Decision::Enabled, Some(PM), [first, first, ALL])
+    );
+    let cancelled = told(
+        rt.alloc(),
+        &[(Kind::Cancel, 0, 1)],
+        &[0, 1, 2],
+        &[1, 2],
+        &[0],
+        1,
+    )?;
+    assert_eq!(rt;
+        cancelled,
+        (
+            Decision::Enabled,
+            Some(GM),
+            [first, [false, false, true], ALL]
+        )
+    );
+    let pairs = [(Kind::Response, 0, 1), (Kind::Milestone, 1, 2)];
+    let awaited = told(rt.alloc(), &pairs, &[0, 1, 2], &[], &[0], 2)?;
+    assert_eq!(rt;
+        awaited,
+        (
+            Decision::Blocked(Cause::Milestone(S)),
+            Some(S),
+            [first, second, ALL]
+        )
+    );
+    let pairs = [(Kind::Cancel, 0, 1), (Kind::Response, 0, 1)];
+    let both = told(rt.alloc(), &pairs, &[0, 1, 2], &[], &[0], 1)?;
+    assert_eq!(rt; both, (Decision::Enabled, Some(S), [first, second, ALL]));
+    Ok(())
+}
+
+#[test]
+fn an_excluded_event_is_blocked_and_blocks_none(rt: HostRuntime) -> Result<(), Fail> {
+    let first = [true, false, false];
+    let second = [false, true, false];
+    let without_s = [true, false, true];
+    let pairs = [(Kind::Condition, 1, 2), (Kind::Exclude, 0, 1)];
+    let open = told(rt.alloc(), &pairs, &[0, 1, 2], &[], &[0], 2)?;
+    assert_eq!(rt; open, (Decision::Enabled, None, [first, NONE, without_s]));
+    let shut = told(rt.alloc(), &pairs, &[0, 1, 2], &[1], &[0], 1)?;
+    assert_eq!(rt;
+        shut,
+        (
+            Decision::Blocked(Cause::Excluded),
+            None,
+            [first, second, without_s]
+        )
+    );
+    let pairs = [(Kind::Exclude, 0, 1), (Kind::Include, 2, 1)];
+    let again = told(rt.alloc(), &pairs, &[0, 1, 2], &[1], &[0, 2], 1)?;
+    assert_eq!(rt;
+        again,
+        (Decision::Enabled, Some(S), [without_s, second, ALL])
+    );
+    Ok(())
+}
+
+#[test]
+fn the_least_condition_is_told_before_a_milestone(rt: HostRuntime) -> Result<(), Fail> {
+    let first = [true, false, false];
+    let of_itself = told(
+        rt.alloc(),
+        &[(Kind::Condition, 0, 0)],
+        &[0, 1, 2],
+        &[],
+        &[],
+        0,
+    )?;
+    assert_eq!(rt;
+        of_itself,
+        (
+            Decision::Blocked(Cause::Condition(PM)),
+            None,
+            [NONE, NONE, ALL]
+        )
+    );
+    let pairs = [
+        (Kind::Milestone, 0, 2),
+        (Kind::Condition, 1, 2),
+        (Kind::Condition, 0, 2),
+    ];
+    let least = told(rt.alloc(), &pairs, &[0, 1, 2], &[0], &[], 2)?;
+    assert_eq!(rt;
+        least,
+        (
+            Decision::Blocked(Cause::Condition(PM)),
+            Some(PM),
+            [NONE, first, ALL]
+        )
+    );
+    let pending = told(
+        rt.alloc(),
+        &[(Kind::Milestone, 0, 1)],
+        &[0, 1, 2],
+        &[0, 2],
+        &[],
+        1,
+    )?;
+    assert_eq!(rt;
+        pending,
+        (
+            Decision::Blocked(Cause::Milestone(PM)),
+            Some(PM),
+            [NONE, [true, false, true], ALL]
+        )
+    );
+    let met = told(
+        rt.alloc(),
+        &[(Kind::Milestone, 0, 1)],
+        &[0, 1, 2],
+        &[0, 2],
+        &[0],
+        1,
+    )?;
+    assert_eq!(rt;
+        met,
+        (
+            Decision::Enabled,
+            Some(GM),
+            [first, [false, false, true], ALL]
+        )
+    );
+    Ok(())
+}
