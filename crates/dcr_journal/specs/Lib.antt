@@ -1,0 +1,4 @@
+pub mod JournalValue
+pub mod JournalModel
+pub mod Answer
+pub mod Run

@@ -1,0 +1,14 @@
+//! Calls, their outcomes, and the journal of a run.
+#![tactic(auto)]
+
+mod call;
+mod closed;
+mod journal;
+mod list;
+#[cfg(test)]
+mod tests;
+
+pub use call::{Call, Entry, Outcome};
+pub use closed::Closed;
+pub use journal::Journal;
+pub use list::{CallList, MarkList};
