@@ -1,0 +1,6 @@
+pub mod EachLemmas
+pub mod NameLemmas
+pub mod CoverLemmas
+pub mod JsonLemmas
+pub mod CaseLemmas
+pub mod CallLemmas
