@@ -1,0 +1,160 @@
+-- Texts on their way to a sink, one after the other, and stops on the way.
+use Rattle.std.proofs.Common.{◌≡◌, inl, inr, ℕ, ◌+◌, ◌<◌, ◌≤◌, List, [], ◌∷◌, ◌++◌, Option, Some, None, Result, Ok, Err, IfErr, OnErr, length, get_or, take, drop, refl, sym, ap, subst, ◌∙◌, append_assoc, arith}
+use Rattle.std.specs.Result.{IsErrAnd}
+use Rattle.std.specs.List.{slice_get}
+use Rattle.std.specs.Io.KnownBytes.{Appends}
+use Rattle.std.proofs.lemmas.List.{append-nil, take_at, take-append-drop, length-append, length-drop, drop_more}
+use Rattle.std.proofs.lemmas.Option.{slice_get_within, get_or_from_slice_get}
+use Rattle.dcr_base.specs.Count.{Rose}
+use Rattle.dcr_report.specs.Passed.{Passes, StopsWithin}
+use Rattle.dcr_report.specs.declared.report.ReportStop.{ReportStop}
+use Rattle.dcr_report.specs.declared.report.ReportStop.TheVariants.{WriteFault, NoMemory}
+
+Appends-none : (a : Option (List ℕ)) → Appends a a []
+Appends-none None = tt
+Appends-none (Some xs) = sym (append-nil xs)
+
+Appends-both : (a b c : Option (List ℕ)) (xs ys : List ℕ) → Appends a b xs → Appends b c ys → Appends a c (xs ++ ys)
+Appends-both None b c xs ys first then = tt
+Appends-both (Some s) None c xs ys first then = absurd first
+Appends-both (Some s) (Some t) None xs ys first then = absurd then
+Appends-both (Some s) (Some t) (Some u) xs ys first then = then ∙ ap (λ l. l ++ ys) first ∙ append_assoc s xs ys
+
+-- what is only held
+pub Passes-held : (a : Option (List ℕ)) (held left text : List ℕ) → left ≡ held ++ text → Passes a a held left text
+Passes-held a held left text e = record { moved = []; took = Appends-none a; joined = e }
+
+-- what is handed on was held before
+pub Passes-from : {a b : Option (List ℕ)} {held grown left text : List ℕ} → grown ≡ held ++ text → Passes a b grown left [] → Passes a b held left text
+Passes-from {grown = grown} e p = record { moved = p.moved; took = p.took; joined = p.joined ∙ append-nil grown ∙ e }
+
+regroup : (first second left held text rest whole start : List ℕ) → first ++ (held ++ (text ++ rest)) ≡ start ++ whole → second ++ left ≡ held ++ text
+    → (first ++ second) ++ (left ++ rest) ≡ start ++ whole
+regroup first second left held text rest whole start before here =
+    append_assoc first second (left ++ rest)
+    ∙ ap (λ l. first ++ l) (sym (append_assoc second left rest) ∙ ap (λ l. l ++ rest) here ∙ append_assoc held text rest)
+    ∙ before
+
+-- the next text of the whole
+pub Passes-next : {a b c : Option (List ℕ)} {start held left text whole : List ℕ} (rest : List ℕ)
+    → Passes a b start (held ++ (text ++ rest)) whole → Passes b c held left text → Passes a c start (left ++ rest) whole
+Passes-next {a} {b} {c} {start} {held} {left} {text} {whole} rest before here = record {
+  moved = before.moved ++ here.moved;
+  took = Appends-both a b c before.moved here.moved before.took here.took;
+  joined = regroup before.moved here.moved left held text rest whole start before.joined here.joined;
+}
+
+Rose-after : (e f g : ℕ) → e ≤ f → Rose f g → Rose e g
+Rose-after e f g never (inl more) = inl (omega arith)
+Rose-after e f g never (inr most) = inr most
+
+-- a stop in the next text of the whole
+pub StopsWithin-next : {stop told : ReportStop} {a b c : Option (List ℕ)} {start held text whole : List ℕ} {e f g : ℕ} (rest : List ℕ)
+    → Passes a b start (held ++ (text ++ rest)) whole → e ≤ f → StopsWithin told b c held text f g → stop ≡ told → StopsWithin stop a c start whole e g
+StopsWithin-next {e = e} {f = f} {g = g} rest before never here is = record {
+  left = here.left ++ rest;
+  passed = Passes-next rest before here.passed;
+  not_all = λ fault. let some = here.not_all (sym is ∙ fault) in omega (arith, length-append here.left rest);
+  counted = λ fault. Rose-after e f g never (here.counted (sym is ∙ fault));
+}
+
+pub StopsWithin-from : {stop : ReportStop} {a b : Option (List ℕ)} {held grown text : List ℕ} {f g : ℕ}
+    → grown ≡ held ++ text → StopsWithin stop a b grown [] f g → StopsWithin stop a b held text f g
+StopsWithin-from e here = record { left = here.left; passed = Passes-from e here.passed; not_all = here.not_all; counted = here.counted }
+
+-- memory ran out before the sink was asked
+pub no_memory_stops : (a : Option (List ℕ)) (held text : List ℕ) (f : ℕ) (stop : ReportStop) → stop ≡ NoMemory → StopsWithin stop a a held text f f
+no_memory_stops a held text f stop is = record {
+  left = held ++ text;
+  passed = Passes-held a held (held ++ text) text refl;
+  not_all = λ fault. let two : NoMemory ≡ WriteFault = sym is ∙ fault in cc;
+  counted = λ fault. let two : NoMemory ≡ WriteFault = sym is ∙ fault in cc;
+}
+
+-- the sink failed in what was held
+pub fault_stops : (stop : ReportStop) (a b : Option (List ℕ)) (held bytes : List ℕ) (n f g : ℕ) → bytes ≡ held → Appends a b (take n bytes) → n < length bytes → Rose f g
+    → StopsWithin stop a b held [] f g
+fault_stops stop a b held bytes n f g same front less rose = record {
+  left = drop n bytes;
+  passed = record { moved = take n bytes; took = front; joined = take-append-drop n bytes ∙ same ∙ sym (append-nil held) };
+  not_all = λ fault. omega (arith, length-drop n bytes);
+  counted = λ fault. rose;
+}
+
+-- the front of it
+pub front_passed : {a b : Option (List ℕ)} {left text : List ℕ} (p : Passes a b [] left text) → Appends a b (take (length p.moved) text)
+front_passed {a} {b} {left} {text} p =
+    let e : p.moved ≡ take (length p.moved) text = sym (take_at p.moved left (length p.moved) refl) ∙ ap (take (length p.moved)) p.joined in
+    subst (λ l. Appends a b l) e p.took
+
+pub not_all_passed : {a b : Option (List ℕ)} {left text : List ℕ} (p : Passes a b [] left text) → 0 < length left → length p.moved < length text
+not_all_passed {left = left} {text = text} p some =
+    let e : length (p.moved ++ left) ≡ length text = ap length p.joined in omega (arith, length-append p.moved left)
+
+-- what an exit returns
+pub IfErr-from : {T E : Type 0} {Q P : E → Type 0} (r : Result T E) → IsErrAnd r Q → ((y : E) → Q y → P y) → IfErr r P
+IfErr-from (Ok x) h f = tt
+IfErr-from (Err y) h f = f y h
+
+pub IfErr-weaker : {T E : Type 0} {Q P : E → Type 0} (r : Result T E) → IfErr r Q → ((y : E) → Q y → P y) → IfErr r P
+IfErr-weaker (Ok x) h f = tt
+IfErr-weaker (Err y) h f = f y h
+
+-- the item at a place, as an answer of `get`, in front of those behind it
+pub drop_at_get : {X : Type 0} (xs : List X) (i : ℕ) (x : X) → slice_get xs i ≡ Some x → drop i xs ≡ x ∷ drop (i + 1) xs
+drop_at_get xs i x e = drop_more xs i x (slice_get_within xs i x e) ∙ ap (λ y. y ∷ drop (i + 1) xs) (get_or_from_slice_get xs i x x e)
+
+-- what is to come, seen as its first line and the rest
+pub Passes-line : {a b : Option (List ℕ)} {start lines more whole : List ℕ} (held : List ℕ) → lines ≡ more → Passes a b start (held ++ lines) whole → Passes a b start (held ++ more) whole
+Passes-line held e p = record { moved = p.moved; took = p.took; joined = sym (ap (λ l. p.moved ++ (held ++ l)) e) ∙ p.joined }
+
+-- what is left, seen as another list
+pub Passes-left : {a b : Option (List ℕ)} {start left same whole : List ℕ} → same ≡ left → Passes a b start left whole → Passes a b start same whole
+Passes-left e p = record { moved = p.moved; took = p.took; joined = ap (λ l. p.moved ++ l) e ∙ p.joined }
+
+-- memory ran out on the way
+pub no_memory_after : {a b : Option (List ℕ)} {start left whole : List ℕ} (f g : ℕ) (stop : ReportStop) → stop ≡ NoMemory → Passes a b start left whole
+    → StopsWithin stop a b start whole f g
+no_memory_after {left = left} f g stop is p = record {
+  left = left;
+  passed = p;
+  not_all = λ fault. let two : NoMemory ≡ WriteFault = sym is ∙ fault in cc;
+  counted = λ fault. let two : NoMemory ≡ WriteFault = sym is ∙ fault in cc;
+}
+
+-- the same, as an answer of an index
+pub drop_at_read : {X : Type 0} (xs : List X) (i : ℕ) (x : X) → i < length xs → x ≡ get_or xs i x → drop i xs ≡ x ∷ drop (i + 1) xs
+drop_at_read xs i x within e = drop_more xs i x within ∙ ap (λ y. y ∷ drop (i + 1) xs) (sym e)
+
+-- the sink failed in what is left at the end
+pub fault_at_end : {a b c : Option (List ℕ)} {start held whole : List ℕ} (bytes : List ℕ) (n e f g : ℕ) (stop : ReportStop) → Passes a b start held whole → e ≤ f
+    → bytes ≡ held → Appends b c (take n bytes) → n < length bytes → Rose f g → StopsWithin stop a c start whole e g
+fault_at_end {b = b} {c = c} {held = held} bytes n e f g stop before never same front less rose =
+    StopsWithin-next {text = []} [] (Passes-left (append-nil held) before) never (fault_stops stop b c held bytes n f g same front less rose) refl
+
+-- what a stop leaves in the sink, where nothing was held
+pub front_at_stop : {stop : ReportStop} {a b : Option (List ℕ)} {held text : List ℕ} {f g : ℕ} → held ≡ [] → StopsWithin stop a b held text f g
+    → (n : ℕ) × Appends a b (take n text)
+front_at_stop {a = a} {b = b} {text = text} e s =
+    let p : Passes a b [] s.left text = subst (λ h. Passes a b h s.left text) e s.passed in (length p.moved, front_passed p)
+
+pub part_at_fault : {stop : ReportStop} {a b : Option (List ℕ)} {held text : List ℕ} {f g : ℕ} → held ≡ [] → StopsWithin stop a b held text f g → stop ≡ WriteFault
+    → (n : ℕ) × (n < length text) × Appends a b (take n text)
+part_at_fault {a = a} {b = b} {text = text} e s fault =
+    let p : Passes a b [] s.left text = subst (λ h. Passes a b h s.left text) e s.passed in (length p.moved, not_all_passed p (s.not_all fault), front_passed p)
+
+-- the sink took the last of it
+pub all_at_end : (a b c : Option (List ℕ)) (start held bytes whole : List ℕ) → start ≡ [] → bytes ≡ held → Passes a b start held whole → Appends b c bytes → Appends a c whole
+all_at_end a b c start held bytes whole none same p last =
+    let e : p.moved ++ bytes ≡ whole = ap (λ l. p.moved ++ l) same ∙ p.joined ∙ ap (λ l. l ++ whole) none in
+    subst (λ l. Appends a c l) e (Appends-both a b c p.moved bytes p.took last)
+
+-- what holds at all holds at an error
+pub OnErr-of : {T E : Type 0} (r : Result T E) (P : Type 0) → P → OnErr r P
+OnErr-of (Ok x) P holds = tt
+OnErr-of (Err e) P holds = holds
+
+-- which error an exit returns
+pub told_is : {T E : Type 0} (r : Result T E) (told fault : E) → IsErrAnd r (λ y. y ≡ told) → r ≡ Err fault → told ≡ fault
+told_is (Ok x) told fault h e = absurd h
+told_is (Err y) told fault h e = cc
