@@ -1,0 +1,4 @@
+mod SitesLemmas
+mod SessionLemmas
+mod CaseLemmas
+mod EndLemmas

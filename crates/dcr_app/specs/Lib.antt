@@ -1,0 +1,4 @@
+pub mod Engine
+pub mod SitesModel
+pub mod RunOf
+pub mod Ends

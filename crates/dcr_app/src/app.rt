@@ -1,0 +1,189 @@
+ghost use Rattle.std.specs.Prelude.{◌≡◌, ◌≢◌, ◌⊎◌, ◌↔◌, ◌≤◌, ◌<◌, [], codes, length, IsTrue, Ok, Err, Some, None, IfSome};
+ghost use Rattle.std.specs.Io.KnownBytes.{Appends};
+ghost use Rattle.dcr_base.specs.Count.{Rose};
+ghost use Rattle.dcr_base.specs.declared.status.Status.TheVariants as status;
+ghost use Rattle.dcr_json.specs.Built.{form_of, IsCase};
+ghost use Rattle.dcr_json.specs.Case.{case_in};
+ghost use Rattle.dcr_json.specs.Form.{Form};
+ghost use Rattle.dcr_json.specs.declared.case.CaseStop.{CaseStop as Stop};
+ghost use Rattle.dcr_report.specs.Report.{report_text};
+ghost use Rattle.dcr_report.specs.Fits.{FitsClosed};
+ghost use Rattle.dcr_app.specs.RunOf.{IsRunOf};
+ghost use Rattle.dcr_app.specs.Ends.{IsRun, Wrote, SaysLine, SaysUsage, Refuses, Answers, Told, Reported, IsRunStatus};
+
+use crate::run::{Ran, run_case};
+use dcr_base::{ReadStop, Sink, Source, Status, read_all, write_all};
+use dcr_journal::Closed;
+use dcr_json::{Case, CaseStop, read_case};
+use dcr_report::{ReportStop, write_report};
+use std::alloc::Global;
+
+// The most bytes of a case file.
+const MAX_BYTES: usize = 16_777_216;
+
+/// How the program ended, and the run where there was one.
+#[derive(Drop)]
+pub struct End {
+    /// How the program ended.
+    pub status: Status,
+    /// The run of the case, where it was accepted. With `NoMemory` it may be missing.
+    pub closed: Option<Closed>,
+}
+
+/// The program: `run` reads a case file to its end, runs its sessions' calls on sites that decide from their
+/// own marks, and writes the report of that run. Other words are answered by the line `usage`, and a file
+/// that is no case by one line that tells why.
+///
+/// `ReadFault` comes only where a read failed and `WriteFault` only where a write failed. `NoMemory` may come
+/// in the place of any other answer. A fault or want of memory leaves a front of what was to be written.
+pub fn dcr<R, I: Source, O: Sink>(
+    _rt: &R,
+    alloc: Global,
+    words: &[String],
+    input: &mut I,
+    output: &mut O,
+) -> End
+    ensures usage { (IsRun words.now → ⊥) → SaysUsage (O.taken output.old) (O.taken output.new) result }
+    ensures unread { (IsRun words.now → ⊥) → I.left input.new ≡ I.left input.old }
+    ensures answers { IsRun words.now → result.status ≢ Status.ReadFault
+        → Told (I.left input.old) (O.taken output.old) (O.taken output.new) result }
+    ensures read_fault { result.status ≡ Status.ReadFault → SaysLine [] (O.taken output.old) (O.taken output.new) result }
+    ensures read_counted { result.status ≡ Status.ReadFault → Rose (I.read_faults input.old) (I.read_faults input.new) }
+    ensures write_counted { result.status ≡ Status.WriteFault → Rose (O.write_faults output.old) (O.write_faults output.new) }
+    ensures reads_never_fall { I.read_faults input.old ≤ I.read_faults input.new }
+    ensures writes_never_fall { O.write_faults output.old ≤ O.write_faults output.new }
+    ensures report { result.status ≡ Status.Done → Reported (I.left input.old) (O.taken output.old) (O.taken output.new) result }
+    ensures usage_only { result.status ≡ Status.Usage → IsRun words.now → ⊥ }
+    ensures done { IsRun words.now → IfSome (I.left input.old) (λ bytes. (case : Form) → case_in bytes ≡ Ok case
+        → (Rose (I.read_faults input.old) (I.read_faults input.new) → ⊥)
+        → (Rose (O.write_faults output.old) (O.write_faults output.new) → ⊥)
+        → (result.status ≡ Status.Done) ⊎ (result.status ≡ Status.NoMemory)) }
+{
+    if is_run(words) {
+        run(alloc, input, output)
+    } else {
+        say(output, b"usage\n", Status::Usage)
+    }
+}
+
+// Whether the words are the one word `run`.
+fn is_run(words: &[String]) -> bool
+    ensures { IsTrue result ↔ IsRun words.now }
+{
+    match words {
+        [word] => word.as_str() == "run",
+        _ => false,
+    }
+}
+
+// Writes a line; there is no run.
+fn say<O: Sink>(output: &mut O, line: &[u8], status: Status) -> End
+    requires { (status ≡ Status.Usage) ⊎ (status ≡ Status.Refused) }
+    ensures status { (result.status ≡ status) ⊎ (result.status ≡ Status.WriteFault) }
+    ensures line { SaysLine line.now (O.taken output.old) (O.taken output.new) result }
+    ensures counted { result.status ≡ Status.WriteFault → Rose (O.write_faults output.old) (O.write_faults output.new) }
+    ensures never_falls { O.write_faults output.old ≤ O.write_faults output.new }
+{
+    match write_all(output, line) {
+        Ok(()) => End {
+            status,
+            closed: None,
+        },
+        Err(_) => End {
+            status: Status::WriteFault,
+            closed: None,
+        },
+    }
+}
+
+// The command `run`.
+fn run<I: Source, O: Sink>(alloc: Global, input: &mut I, output: &mut O) -> End
+    ensures answers { result.status ≢ Status.ReadFault → Told (I.left input.old) (O.taken output.old) (O.taken output.new) result }
+    ensures read_fault { result.status ≡ Status.ReadFault → SaysLine [] (O.taken output.old) (O.taken output.new) result }
+    ensures read_counted { result.status ≡ Status.ReadFault → Rose (I.read_faults input.old) (I.read_faults input.new) }
+    ensures write_counted { result.status ≡ Status.WriteFault → Rose (O.write_faults output.old) (O.write_faults output.new) }
+    ensures reads_never_fall { I.read_faults input.old ≤ I.read_faults input.new }
+    ensures writes_never_fall { O.write_faults output.old ≤ O.write_faults output.new }
+    ensures no_usage { result.status ≢ Status.Usage }
+{
+    match read_all(alloc, input, MAX_BYTES) {
+        Ok(bytes) => run_bytes(alloc, &bytes, output),
+        Err(ReadStop::TooLong) => refuse(output, CaseStop::TooLong),
+        Err(ReadStop::ReadFault) => End {
+            status: Status::ReadFault,
+            closed: None,
+        },
+        Err(ReadStop::NoMemory) => End {
+            status: Status::NoMemory,
+            closed: None,
+        },
+    }
+}
+
+// Answers the bytes of a file.
+fn run_bytes<O: Sink>(alloc: Global, bytes: &[u8], output: &mut O) -> End
+    ensures answers { Answers (case_in bytes.now) (O.taken output.old) (O.taken output.new) result }
+    ensures no_usage { result.status ≢ Status.Usage }
+    ensures no_read_fault { result.status ≢ Status.ReadFault }
+    ensures counted { result.status ≡ Status.WriteFault → Rose (O.write_faults output.old) (O.write_faults output.new) }
+    ensures never_falls { O.write_faults output.old ≤ O.write_faults output.new }
+{
+    match read_case(alloc, bytes) {
+        Ok(case) => run_and_report(alloc, case, output),
+        Err(stop) => refuse(output, stop),
+    }
+}
+
+// Tells a refusal.
+fn refuse<O: Sink>(output: &mut O, stop: CaseStop) -> End
+    ensures refuses { Refuses stop (O.taken output.old) (O.taken output.new) result }
+    ensures starves { stop ≡ CaseStop.NoMemory → result.status ≡ Status.NoMemory }
+    ensures counted { result.status ≡ Status.WriteFault → Rose (O.write_faults output.old) (O.write_faults output.new) }
+    ensures never_falls { O.write_faults output.old ≤ O.write_faults output.new }
+{
+    match stop {
+        CaseStop::TooLong => say(output, b"refused 1 too-long\n", Status::Refused),
+        CaseStop::NotJson => say(output, b"refused 2 not-json\n", Status::Refused),
+        CaseStop::NotBuilt => say(output, b"refused 0 not-built\n", Status::Refused),
+        CaseStop::NoMemory => End {
+            status: Status::NoMemory,
+            closed: None,
+        },
+    }
+}
+
+// Runs a case and writes the report of the run.
+fn run_and_report<O: Sink>(alloc: Global, case: Case, output: &mut O) -> End
+    requires { IsCase (form_of case) }
+    ensures answers { Answers (Ok (form_of case)) (O.taken output.old) (O.taken output.new) result }
+    ensures counted { result.status ≡ Status.WriteFault → Rose (O.write_faults output.old) (O.write_faults output.new) }
+    ensures never_falls { O.write_faults output.old ≤ O.write_faults output.new }
+{
+    match run_case(alloc, case) {
+        Ok(ran) => report(alloc, ran, output),
+        Err(_) => End {
+            status: Status::NoMemory,
+            closed: None,
+        },
+    }
+}
+
+// Writes the report of a run.
+fn report<O: Sink>(alloc: Global, ran: Ran, output: &mut O) -> End
+    requires { FitsClosed (length ran.graph.names) (length ran.sites.items) ran.closed }
+    ensures closed { result.closed ≡ Some ran.closed }
+    ensures status { IsRunStatus result.status }
+    ensures wrote { Wrote result.status (report_text ran.graph.names ran.sites.items ran.closed) (O.taken output.old) (O.taken output.new) }
+    ensures counted { result.status ≡ Status.WriteFault → Rose (O.write_faults output.old) (O.write_faults output.new) }
+    ensures never_falls { O.write_faults output.old ≤ O.write_faults output.new }
+{
+    let status = match write_report(alloc, &ran.graph, &ran.sites, &ran.closed, output) {
+        Ok(()) => Status::Done,
+        Err(ReportStop::WriteFault) => Status::WriteFault,
+        Err(ReportStop::NoMemory) => Status::NoMemory,
+    };
+    End {
+        status,
+        closed: Some(ran.closed),
+    }
+}

@@ -1,0 +1,12 @@
+//! The top call: a case file in, its report out.
+#![tactic(auto)]
+
+mod app;
+mod built;
+mod run;
+mod session;
+mod sites;
+
+pub use app::{End, dcr};
+pub use dcr_base::Status;
+pub use dcr_journal::{Call, CallList, Closed, Entry, Journal, MarkList, Outcome};
