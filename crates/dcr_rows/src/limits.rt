@@ -1,0 +1,114 @@
+use crate::first::answer;
+use dcr_app::Status;
+use std::alloc::Global;
+use std::fmt::Write;
+use std::test::Fail;
+
+// A case file of so many events, relations, sites and calls, which a first site's first event is asked by.
+fn case_text(
+    alloc: Global,
+    events: u32,
+    relations: u32,
+    sites: u32,
+    calls: u32,
+) -> Result<String, Fail> {
+    let mut text = String::from_str(alloc, "{\"graph\":{\"events\":[")?;
+    push_each(&mut text, events, "{\"name\":\"e", "\"}")?;
+    text.push_str("],\"relations\":[")?;
+    push_same(&mut text, relations, "[\"response\",\"e0\",\"e0\"]")?;
+    text.push_str("]},\"cover\":[{\"site\":\"x\",\"events\":[")?;
+    push_each(&mut text, events, "\"e", "\"")?;
+    text.push_str("]}")?;
+    for site in 1..sites {
+        write!(text, ",{{\"site\":\"y{site}\",\"events\":[]}}")?;
+    }
+    text.push_str("],\"sessions\":[[")?;
+    push_same(&mut text, calls, "\"exec x e0\"")?;
+    text.push_str("]]}")?;
+    Ok(text)
+}
+
+// Each number between the two texts, with commas.
+fn push_each(text: &mut String, count: u32, before: &str, after: &str) -> Result<(), Fail> {
+    for number in 0..count {
+        if number > 0 {
+            text.push_str(",")?;
+        }
+        write!(text, "{before}{number}{after}")?;
+    }
+    Ok(())
+}
+
+// The same text so many times, with commas.
+fn push_same(text: &mut String, count: u32, same: &str) -> Result<(), Fail> {
+    for number in 0..count {
+        if number > 0 {
+            text.push_str(",")?;
+        }
+        text.push_str(same)?;
+    }
+    Ok(())
+}
+
+#[test]
+fn limits_are_exact(rt: HostRuntime) -> Result<(), Fail> {
+    for (row, events, relations, sites, calls, is_within) in [
+        ("256 events", 256, 0, 1, 0, true),
+        ("257 events", 257, 0, 1, 0, false),
+        ("4,096 relations", 1, 4096, 1, 0, true),
+        ("4,097 relations", 1, 4097, 1, 0, false),
+        ("16 sites", 1, 0, 16, 0, true),
+        ("17 sites", 1, 0, 17, 0, false),
+        ("200,000 calls", 1, 0, 1, 200_000, true),
+        ("200,001 calls", 1, 0, 1, 200_001, false),
+    ] {
+        let text = case_text(rt.alloc(), events, relations, sites, calls)?;
+        let (status, written) = answer(&rt, &["run"], text.as_bytes())?;
+        if is_within {
+            let end = format!(in rt.alloc(); "\nend {calls}\n")?;
+            assert_eq!(rt; status, Status::Done, "{row}");
+            assert!(rt; written.as_slice().ends_with(end.as_bytes()), "{row}");
+        } else {
+            assert_eq!(rt; status, Status::Refused, "{row}");
+            assert_eq!(rt;
+                written.as_slice(),
+                "refused 0 not-built\n".as_bytes(),
+                "{row}"
+            );
+        }
+    }
+    Ok(())
+}
+
+#[test]
+fn names_have_at_most_64_bytes(rt: HostRuntime) -> Result<(), Fail> {
+    for (length, is_within) in [(64, true), (65, false)] {
+        let mut name = String::from_str(rt.alloc(), "a")?;
+        for _ in 1..length {
+            name.push_str("b")?;
+        }
+        let text = format!(in rt.alloc();
+            "{{\"graph\":{{\"events\":[{{\"name\":\"{name}\"}}]}},\"cover\":[{{\"site\":\"x\",\"events\":[\"{name}\"]}}]}}"
+        )?;
+        let (status, _) = answer(&rt, &["run"], text.as_bytes())?;
+        assert_eq!(rt; status == Status::Done, is_within, "{length} bytes");
+    }
+    Ok(())
+}
+
+#[test]
+fn files_have_at_most_16_mib(rt: HostRuntime) -> Result<(), Fail> {
+    let text = case_text(rt.alloc(), 1, 0, 1, 0)?;
+    let mut bytes = Vec::with_capacity(rt.alloc(), 16_777_217)?;
+    bytes.extend_from_slice(text.as_bytes())?;
+    for _ in text.len()..16_777_216 {
+        bytes.push(b' ')?;
+    }
+    let (status, _) = answer(&rt, &["run"], &bytes)?;
+    assert_eq!(rt; status, Status::Done);
+    bytes.push(b' ')?;
+    let (status, written) = answer(&rt, &["run"], &bytes)?;
+    assert_eq!(rt; status, Status::Refused);
+    assert_eq!(rt; written.as_slice(), "refused 1 too-long\n".as_bytes());
+    Ok(())
+}
