@@ -68,12 +68,12 @@ or_chain now self old before this after e f g = e ∙ ap (λ t. t || this) f ∙
     or_assoc true b c = refl
     or_assoc false b c = refl
 
+-- rules with as many atoms that relate the same are the same
+pub same_rules : (G H : Rules) → G.atoms ≡ H.atoms → ((kind : Kind) (a b : ℕ) → G.related kind a b ≡ H.related kind a b) → G ≡ H
+same_rules G H atoms related =
+    ap (λ n. let r : Rules = record { atoms = n; related = G.related } in r) atoms
+    ∙ ap (λ r. let s : Rules = record { atoms = H.atoms; related = r } in s) (fun_ext (λ kind. fun_ext (λ a. fun_ext (λ b. related kind a b))))
+
 -- the same relation has the same clash
 pub same_clash : (G H : Rules) → G.atoms ≡ H.atoms → ((kind : Kind) (a b : ℕ) → G.related kind a b ≡ H.related kind a b) → first_clash G ≡ first_clash H
-same_clash G H atoms related = ap first_clash same
-  where
-    all : G.related ≡ H.related
-    all = fun_ext (λ kind. fun_ext (λ a. fun_ext (λ b. related kind a b)))
-
-    same : G ≡ H
-    same = ap (λ n. let r : Rules = record { atoms = n; related = G.related } in r) atoms ∙ ap (λ r. let s : Rules = record { atoms = H.atoms; related = r } in s) all
+same_clash G H atoms related = ap first_clash (same_rules G H atoms related)

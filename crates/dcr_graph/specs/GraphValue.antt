@@ -11,6 +11,9 @@ pub record Flat : Type 0 where
   pub labels : List (List ℕ)
   pub tables : List (List Set)
 
+abbrev pub flat : List (List ℕ) → List (List ℕ) → List (List Set) → Flat
+flat names labels tables = record { names = names; labels = labels; tables = tables }
+
 -- the targets of each atom by a kind
 abbrev pub targets_by : Flat → Kind → List Set
 targets_by g kind = slice_index_or g.tables (kind_number kind) []

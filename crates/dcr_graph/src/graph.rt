@@ -52,13 +52,14 @@ impl Model for Graph {
 }
 
 impl Graph {
-    ghost use Rattle.std.specs.Prelude.{◌≡◌, ℕ, ◌<◌, ◌≤◌, ◌&&◌, ◌||◌, ◌==◌, length, None, vec_len, IfOk, IfErr, OnOk, slice_index_or, []};
+    ghost use Rattle.std.specs.Prelude.{◌≡◌, ◌≢◌, ℕ, ◌<◌, ◌≤◌, ◌&&◌, ◌||◌, ◌==◌, length, None, vec_len, IfOk, IfErr, OnOk, slice_index_or, []};
+    ghost use Rattle.std.specs.List.{All};
     ghost use Rattle.dcr_set.specs.EventSet.{those};
     ghost use Rattle.dcr_set.specs.declared.id.TheConstants.{MAX_ATOMS};
     ghost use Rattle.dcr_graph.specs.Names.{AreDistinct, number_of};
     ghost use Rattle.dcr_graph.specs.Rules.{same_kind};
     ghost use Rattle.dcr_graph.specs.declared.kind.Kind.{Kind};
-    ghost use Rattle.dcr_graph.specs.GraphValue.{rules_of};
+    ghost use Rattle.dcr_graph.specs.GraphValue.{rules_of, flat};
     ghost use Rattle.dcr_graph.specs.Pairs.{AreInRange, is_listed, rules_listed, first_clash, TellsClash};
 
     /// The graph of these atoms and pairs. `Clash` comes exactly where an include pair is an exclude pair,
@@ -81,13 +82,32 @@ impl Graph {
     {
         let mut graph = Graph::without_relations(alloc, names, labels)?;
         graph.relate_all(&pairs);
-        if let Some(pair) = graph.clash() {
-            return Err(GraphStop::Clash {
-                a: pair.0,
-                b: pair.1,
-            });
-        }
-        Ok(graph)
+        graph.without_clash()
+    }
+
+    /// The graph of these atoms and of a table of pairs for each kind, by its number. `Clash` comes exactly
+    /// where an include pair is an exclude pair, with the least such pair. Takes no memory.
+    pub fn of_tables(
+        names: Vec<Name>,
+        labels: Vec<Label>,
+        tables: Vec<Table>,
+    ) -> Result<Graph, GraphStop>
+        requires most { vec_len names ≤ MAX_ATOMS }
+        requires as_many_labels { vec_len labels ≡ vec_len names }
+        requires distinct { AreDistinct names.items }
+        requires six_kinds { vec_len tables ≡ 6 }
+        requires as_many_rows { All (λ table. length table ≡ vec_len names) tables.items }
+        ensures made { IfOk result (λ graph. graph ≡ flat names.items labels.items tables.items) }
+        ensures no_clash { OnOk result (first_clash (rules_of (flat names.items labels.items tables.items)) ≡ None) }
+        ensures clash { IfErr result (TellsClash (first_clash (rules_of (flat names.items labels.items tables.items)))) }
+        ensures no_memory_taken { result ≢ Err GraphStop.NoMemory }
+    {
+        let graph = Graph {
+            names,
+            labels,
+            tables,
+        };
+        graph.without_clash()
     }
 
     // The atoms alone.
@@ -134,6 +154,22 @@ impl Graph {
     {
         let table = &mut self.tables[kind.number()];
         table.add(a, b);
+    }
+
+    // This graph, or its clash.
+    fn without_clash(self) -> Result<Graph, GraphStop>
+        ensures same { IfOk result (λ graph. graph ≡ self) }
+        ensures no_clash { OnOk result (first_clash (rules_of self) ≡ None) }
+        ensures clash { IfErr result (TellsClash (first_clash (rules_of self))) }
+        ensures no_memory_taken { result ≢ Err GraphStop.NoMemory }
+    {
+        if let Some(pair) = self.clash() {
+            return Err(GraphStop::Clash {
+                a: pair.0,
+                b: pair.1,
+            });
+        }
+        Ok(self)
     }
 
     // The least pair that is both an include and an exclude.

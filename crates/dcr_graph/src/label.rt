@@ -67,6 +67,14 @@ impl Label {
         Ok(Label { text })
     }
 
+    /// The same label again.
+    pub fn copy(&self, alloc: Global) -> Result<Label, NoMemory>
+        ensures { IfOk result (λ label. label ≡ self.now) }
+    {
+        let text = String::from_str(alloc, self.text())?;
+        Ok(Label { text })
+    }
+
     /// Its text.
     pub fn text(&self) -> &str
         ensures text { result.now ≡ self.now }

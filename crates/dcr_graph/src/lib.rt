@@ -15,3 +15,4 @@ pub use kind::{Cause, Kind};
 pub use label::{Label, LabelStop};
 pub use marking::{Marking, SiteMark};
 pub use name::{Name, NameStop};
+pub use table::Table;

@@ -1,8 +1,9 @@
 ghost use Rattle.std.specs.Prelude.{◌≡◌, ◌↔◌, true, false, IfOk, IsErrOf};
 ghost use Rattle.std.specs.List.{list_all};
 ghost use Rattle.dcr_graph.specs.Names.{is_letter, is_name_byte, is_name};
-ghost use Rattle.dcr_graph.specs.declared.name.NameStop.TheVariants.{NoMemory};
+ghost use Rattle.dcr_graph.specs.declared.name.NameStop.TheVariants.{NoMemory as no_memory};
 
+use dcr_set::NoMemory;
 use std::alloc::{AllocError, Global};
 use std::marker::Model;
 use thiserror::Error;
@@ -38,7 +39,7 @@ pub enum NameStop {
 }
 
 impl From<AllocError> for NameStop {
-    ghost from_gives = { λ _ e. e ≡ NoMemory };
+    ghost from_gives = { λ _ e. e ≡ no_memory };
 
     fn from(_: AllocError) -> NameStop {
         NameStop::NoMemory
@@ -57,6 +58,14 @@ impl Name {
         Ok(Name {
             text: String::from_str(alloc, text)?,
         })
+    }
+
+    /// The same name again. `NoMemory` where memory could not be had.
+    pub fn copy(&self, alloc: Global) -> Result<Name, NoMemory>
+        ensures { IfOk result (λ name. name ≡ self.now) }
+    {
+        let text = String::from_str(alloc, self.text())?;
+        Ok(Name { text })
     }
 
     /// Its text.

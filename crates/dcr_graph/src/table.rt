@@ -1,6 +1,7 @@
-ghost use Rattle.std.specs.Prelude.{◌≡◌, ℕ, ◌<◌, ◌≤◌, ◌&&◌, ◌||◌, ◌==◌, [], length, IfOk, replicate, slice_set, slice_index_or};
+ghost use Rattle.std.specs.Prelude.{◌≡◌, ℕ, ◌<◌, ◌≤◌, ◌&&◌, ◌||◌, ◌==◌, [], length, vec_len, IfOk, replicate, slice_set, slice_index_or};
 ghost use Rattle.dcr_set.specs.EventSet.{no_event, those, with_event};
-ghost use Rattle.dcr_graph.specs.Rows.{leads};
+ghost use Rattle.dcr_set.specs.declared.id.TheConstants.{MAX_ATOMS};
+ghost use Rattle.dcr_graph.specs.Rows.{row, leads};
 
 use dcr_set::{EventId, EventSet, NoMemory};
 use std::alloc::Global;
@@ -34,6 +35,19 @@ impl Table {
         let targets = empty_rows(alloc, atoms)?;
         let sources = empty_rows(alloc, atoms)?;
         Ok(Table { targets, sources })
+    }
+
+    /// The pairs that are told by the set of targets and the set of sources of each atom. The one is the
+    /// other turned round.
+    pub fn of_rows(targets: Vec<EventSet>, sources: Vec<EventSet>) -> Table
+        requires most { vec_len targets ≤ MAX_ATOMS }
+        requires as_many { vec_len sources ≡ vec_len targets }
+        requires rooms { (a : ℕ) → a < vec_len targets → length (row targets.items a) ≡ vec_len targets }
+        requires rooms_back { (b : ℕ) → b < vec_len targets → length (row sources.items b) ≡ vec_len targets }
+        requires turned { (a b : ℕ) → leads sources.items b a ≡ leads targets.items a b }
+        ensures { result ≡ targets.items }
+    {
+        Table { targets, sources }
     }
 
     /// Adds the pair of a and b.

@@ -1,0 +1,5 @@
+pub mod TreeLemmas
+pub mod AtomLemmas
+pub mod MarkLemmas
+pub mod RowLemmas
+pub mod FlatLemmas

@@ -1,0 +1,14 @@
+//! Nested graphs: nodes with parents, relations written between nodes, and the flat graph of the atoms.
+#![tactic(auto)]
+
+mod flatten;
+mod laws;
+mod nested;
+mod node;
+#[cfg(test)]
+mod tests;
+mod tree;
+
+pub use laws::nodes_are_below_as_parents_lead;
+pub use nested::Nested;
+pub use node::{Node, Version};
