@@ -1,0 +1,9 @@
+pub mod Rule
+pub mod Steps
+pub mod Seats
+pub mod Placing
+pub mod RowModel
+pub mod HeldValue
+pub mod GripModel
+pub mod RowEndValue
+pub mod RowEndModel

@@ -1,0 +1,69 @@
+//! What a seat does at a place: it takes what stands there, puts a value back, or leaves it empty.
+ghost use Rattle.std.specs.Prelude.{◌≡◌};
+ghost use Rattle.dcr_lock.specs.Seats.{HasPlace, holding, idle};
+ghost use Rattle.dcr_lock.specs.Steps.{empty_then};
+
+use crate::Placed;
+use crate::steps::{EMPTY, FREE, GiveBack, PlaceSeat, SharedPlaces, TAKEN, Take};
+use std::sync::Wait;
+
+/// Waits until the place is free, and takes its value. The seat holds the place then, with its slot empty.
+pub(crate) fn take<T: Placed, R: Wait>(
+    shared: &SharedPlaces<T>,
+    rt: &R,
+    seat: &mut PlaceSeat<T>,
+    place: u16,
+) -> T
+    requires row { seat.old.table_id ≡ shared.now.table_id }
+    requires place { HasPlace shared.now.table_id place }
+    requires idle { seat.old.me ≡ idle seat.old.me.0.empty }
+    ensures belongs { T.belongs place result }
+    ensures same { (seat.new.table_id ≡ seat.old.table_id) × (seat.new.id ≡ seat.old.id) }
+    ensures holds { seat.new.me ≡ holding place seat.old.me.0.empty }
+{
+    let at = place as usize;
+    for _ in rt.forever() {
+        let found = shared.compare_exchange::<Take>(seat, at, FREE, TAKEN);
+        if found == FREE {
+            let stood = shared.exchange(seat, at, None);
+            let Some(value) = stood else { unreachable!() };
+            return value;
+        }
+        // It sleeps on what it found: a place that is empty stays so, and is not asked again and again.
+        shared.park(rt, at, found as u32);
+    }
+    unreachable!()
+}
+
+/// Puts a value that belongs there into the slot of a place that the seat holds, frees the place and
+/// wakes one thread that waits for it.
+pub(crate) fn put_back<T: Placed>(
+    shared: &SharedPlaces<T>,
+    seat: &mut PlaceSeat<T>,
+    place: u16,
+    value: T,
+)
+    requires row { seat.old.table_id ≡ shared.now.table_id }
+    requires place { HasPlace shared.now.table_id place }
+    requires holds { seat.old.me ≡ holding place seat.old.me.0.empty }
+    requires belongs { T.belongs place value }
+    ensures same { (seat.new.table_id ≡ seat.old.table_id) × (seat.new.id ≡ seat.old.id) }
+    ensures idle { seat.new.me ≡ idle seat.old.me.0.empty }
+{
+    let at = place as usize;
+    let stood = shared.exchange(seat, at, Some(value));
+    let None = stood else { unreachable!() };
+    shared.store::<GiveBack>(seat, at, FREE);
+    shared.wake_one(at);
+}
+
+/// Leaves a place that the seat holds, and whose slot is empty, empty for ever.
+pub(crate) fn leave_empty<T: Placed>(shared: &SharedPlaces<T>, seat: &mut PlaceSeat<T>, place: u16)
+    requires row { seat.old.table_id ≡ shared.now.table_id }
+    requires place { HasPlace shared.now.table_id place }
+    requires holds { seat.old.me ≡ holding place seat.old.me.0.empty }
+    ensures same { (seat.new.table_id ≡ seat.old.table_id) × (seat.new.id ≡ seat.old.id) }
+    ensures idle { seat.new.me ≡ idle (empty_then 2 place seat.old.me.0.empty) }
+{
+    shared.store::<GiveBack>(seat, place as usize, EMPTY);
+}
