@@ -1,0 +1,6 @@
+pub mod ValueLemmas
+pub mod ReadingLemmas
+pub mod PartLemmas
+pub mod OrderLemmas
+pub mod TellLemmas
+pub mod ShapeLemmas

@@ -1,0 +1,11 @@
+pub mod Stages
+pub mod Order
+pub mod Members
+pub mod Parts
+pub mod Readings
+pub mod Shape
+pub mod Says
+pub mod Items
+pub mod Case
+pub mod Words
+pub mod Laws

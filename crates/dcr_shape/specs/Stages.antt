@@ -1,0 +1,16 @@
+-- Stages of reading: each gives what it reads, or a refusal.
+use Rattle.std.specs.Prelude.{ℕ, ◌+◌, List, [], ◌∷◌, Result, Ok, Err}
+
+abbrev pub after : {A B E : Type 0} → (A → Result B E) → Result A E → Result B E
+after f (Ok x) = f x
+after f (Err e) = Err e
+
+infixl 10 ◌>>=◌
+-- the next stage, where this one gave something
+abbrev pub ◌>>=◌ : {A B E : Type 0} → Result A E → (A → Result B E) → Result B E
+r >>= f = after f r
+
+-- each of a list with its index, counting from i; it stops at the first that is refused
+abbrev pub each_from : {A B E : Type 0} → (ℕ → A → Result B E) → ℕ → List A → Result (List B) E
+each_from read i [] = Ok []
+each_from read i (x ∷ xs) = read i x >>= λ y. each_from read (i + 1) xs >>= λ ys. Ok (y ∷ ys)

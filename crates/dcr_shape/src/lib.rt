@@ -1,0 +1,26 @@
+//! The shape of a case file: what is written in a JSON value that has it, or the first part that fails.
+#![tactic(auto)]
+
+mod arrays;
+mod events;
+mod laws;
+mod relations;
+mod sessions;
+mod sites;
+mod stop;
+#[cfg(test)]
+mod tests;
+mod texts;
+mod value;
+mod version;
+mod written;
+
+pub use events::{WrittenEvent, WrittenEvents};
+pub use laws::shape_is_the_formats;
+pub use relations::{WrittenRelation, WrittenRelations};
+pub use sessions::WrittenSessions;
+pub use sites::{WrittenSite, WrittenSites};
+pub use stop::{LimitKind, Part, ReadStop};
+pub use texts::Texts;
+pub use version::Version;
+pub use written::{Written, read_shape};

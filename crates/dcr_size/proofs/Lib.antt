@@ -1,0 +1,3 @@
+mod Lexed
+mod Parsed
+pub mod SizeLemmas
