@@ -1,4 +1,4 @@
--- The graph of a case, its opening marking, and that its run can be shown.
+-- That the run of a case can be shown.
 use Rattle.std.proofs.Common.{◌≡◌, ℕ, ◌+◌, ◌<◌, Bool, true, false, ◌&&◌, ◌||◌, eqb, cond, List, [], ◌∷◌, ◌++◌, length, map, Option, Some, None, is_some, refl, sym, ap, subst, ◌∙◌, arith}
 use Rattle.std.specs.Prelude.{fold}
 use Rattle.std.specs.List.{All, list_any}
@@ -27,27 +27,10 @@ use Rattle.dcr_journal.specs.declared.call.Call.TheVariants.{Exec}
 use Rattle.dcr_journal.specs.declared.call.Outcome.TheVariants.{NotHere}
 use Rattle.dcr_journal.specs.declared.call.Entry.{Entry}
 use Rattle.dcr_journal.specs.declared.closed.Closed.{Closed}
-use Rattle.dcr_json.specs.Form.{Form}
+use Rattle.dcr_json.specs.Judged.{Spelled}
 use Rattle.dcr_json.specs.Built.{IsCase}
 use Rattle.dcr_report.specs.Fits.{FitsAtoms, NamesAtom, FitsEntry, FitsClosed}
-use Rattle.dcr_app.specs.RunOf.{opening, rules_in, opening_in, marking_at_end, IsRunOf}
-
--- ---- the graph
-
--- with no exclude there is no clash
-pub no_clash : (n : ℕ) (pairs : List Pair) → All (λ (pair : Pair). same_kind pair.0 Exclude ≡ false) pairs → first_clash (rules_listed n pairs) ≡ None
-no_clash n pairs none =
-    let G = rules_listed n pairs in
-    let excluded : (a b : ℕ) → is_listed pairs Exclude a b ≡ false = λ a b.
-    list_any_none (λ (pair : Pair). same_kind pair.0 Exclude && (eqb pair.1 a && eqb pair.2 b)) pairs
-    (All-weaker (λ (pair : Pair). same_kind pair.0 Exclude ≡ false) (λ (pair : Pair). (same_kind pair.0 Exclude && (eqb pair.1 a && eqb pair.2 b)) ≡ false)
-    (λ pair e. ap (λ t. t && (eqb pair.1 a && eqb pair.2 b)) e) pairs none) in
-    let apart : (a b : ℕ) → clashes G a b ≡ false = λ a b. ap (λ t. is_listed pairs Include a b && t) (excluded a b) ∙ and_false (is_listed pairs Include a b) in
-    let alone : (a : ℕ) → some_below n (clashes G a) ≡ false = λ a. ap is_some (least-none_from n (clashes G a) (λ b below. apart a b)) in
-    ap (option_and_then (λ a. option_map (λ b. (a, b)) (least n (clashes G a)))) (least-none_from n (λ a. some_below n (clashes G a)) (λ a below. alone a))
-
-pub opening_room : (n : ℕ) → HasRoom n (opening n)
-opening_room n = record { executed = length-those n _; pending = length-those n _; included = length-those n _ }
+use Rattle.dcr_app.specs.RunOf.{marking_at_end, IsRunOf}
 
 -- ---- the run
 
@@ -91,31 +74,17 @@ marks_fit G [] M = All-nil (λ (mark : SiteMark). FitsAtoms G.atoms mark.execute
 marks_fit G (S ∷ C) M = All-cons (λ (mark : SiteMark). FitsAtoms G.atoms mark.executed mark.pending mark.included) (project G S M) (marks_at G C M) (mark_fits G S M) (marks_fit G C M)
 
 -- the run of a case names its own atoms and sites
-pub run_fits : (case : Form) (closed : Closed) → IsCase case → IsRunOf case closed → FitsClosed (length case.names) (length case.sites) closed
-run_fits case closed fits run =
-    let G = rules_in case in let M = marking_at_end case closed in
-    record {
-      opening = subst (λ (N : Marking). FitsAtoms (length case.names) N.executed N.pending N.included) (sym run.opening)
-          (record { executed_room = length-those _ _; pending_room = length-those _ _; included_room = length-those _ _ });
-      entries = subst (All (FitsEntry (length case.names) (length case.sites))) (sym run.history)
-          (told_fits G case.owned (opening_in case) (length case.sites) (numbered 0 case.sessions) [] (numbered_within (length case.sites) (length case.names) 0 case.sessions fits.calls_in_range)
-          (All-nil (FitsEntry (length case.names) (length case.sites))));
-      as_many_marks = ap (λ marks. length marks) run.marks ∙ length-map case.owned (λ S. project G S M) ∙ fits.owned_sets;
-      marks = subst (All (λ (mark : SiteMark). FitsAtoms (length case.names) mark.executed mark.pending mark.included)) (sym run.marks) (marks_fit G case.owned M);
-      waits = λ e is. (least-some (length case.names) _ e (sym run.verdict ∙ is)).below;
-    }
-
--- the run of a case, where its parts were told of the rules, the owned sets and the opening marking
-pub run_is : (case : Form) (closed : Closed) (G : Rules) (C : List Set) (M : Marking) → G ≡ rules_in case → C ≡ case.owned → M ≡ opening_in case
-    → closed.opening ≡ M → closed.history.entries ≡ told G C M case.sessions → closed.marks ≡ marks_at G C (after G M closed.history.entries)
-    → closed.waits ≡ waits G.atoms (after G M closed.history.entries) → IsRunOf case closed
-run_is case closed G C M is_G is_C is_M is_opening is_history is_marks is_waits =
-    let marking : after G M closed.history.entries ≡ marking_at_end case closed =
-    ap (λ R. after R M closed.history.entries) is_G ∙ ap (λ N. after (rules_in case) N closed.history.entries) is_M in
-    record {
-      opening = is_opening ∙ is_M;
-      history = is_history ∙ ap (λ R. told R C M case.sessions) is_G ∙ ap (λ D. told (rules_in case) D M case.sessions) is_C ∙ ap (λ N. told (rules_in case) case.owned N case.sessions) is_M;
-      marks = is_marks ∙ ap (λ R. marks_at R C (after G M closed.history.entries)) is_G ∙ ap (λ D. marks_at (rules_in case) D (after G M closed.history.entries)) is_C
-          ∙ ap (marks_at (rules_in case) case.owned) marking;
-      verdict = is_waits ∙ ap (λ R. waits R.atoms (after G M closed.history.entries)) is_G ∙ ap (waits (length case.names)) marking;
-    }
+pub run_fits : (case : Spelled) (closed : Closed) → case.rules.atoms ≡ length case.names → length case.cover.owned ≡ length case.cover.names → IsCase case → IsRunOf case closed
+    → FitsClosed (length case.names) (length case.cover.names) closed
+run_fits case closed atoms as_many fits run =
+    let G = case.rules in let M = marking_at_end case closed in let sites = length case.cover.names in
+    let in_range : All (λ (calls : List Call). All (IsInRange sites G.atoms) calls) case.sessions = subst (λ n. All (λ (calls : List Call). All (IsInRange sites n) calls) case.sessions) (sym atoms) fits.calls_in_range in
+    subst (λ n. FitsClosed n sites closed) atoms (record {
+      opening = subst (λ (N : Marking). FitsAtoms G.atoms N.executed N.pending N.included) (sym run.opening)
+          (record { executed_room = fits.opening.executed ∙ sym atoms; pending_room = fits.opening.pending ∙ sym atoms; included_room = fits.opening.included ∙ sym atoms });
+      entries = subst (All (FitsEntry G.atoms sites)) (sym run.history)
+          (told_fits G case.cover.owned case.opening sites (numbered 0 case.sessions) [] (numbered_within sites G.atoms 0 case.sessions in_range) (All-nil (FitsEntry G.atoms sites)));
+      as_many_marks = ap (λ marks. length marks) run.marks ∙ length-map case.cover.owned (λ S. project G S M) ∙ as_many;
+      marks = subst (All (λ (mark : SiteMark). FitsAtoms G.atoms mark.executed mark.pending mark.included)) (sym run.marks) (marks_fit G case.cover.owned M);
+      waits = λ e is. (least-some G.atoms _ e (sym run.verdict ∙ is)).below;
+    })

@@ -6,10 +6,10 @@ use Rattle.dcr_base.specs.declared.status.Status.{Status}
 use Rattle.dcr_base.specs.declared.status.Status.TheVariants.{Done, Usage, Refused, ReadFault, WriteFault, NoMemory}
 use Rattle.dcr_journal.specs.declared.closed.Closed.{Closed}
 use Rattle.dcr_json.specs.Case.{case_in}
-use Rattle.dcr_json.specs.Form.{Form}
+use Rattle.dcr_json.specs.Judged.{Spelled}
 use Rattle.dcr_json.specs.declared.case.CaseStop.{CaseStop}
-use Rattle.dcr_json.specs.declared.case.CaseStop.TheVariants as stop
 use Rattle.dcr_report.specs.Report.{report_text}
+use Rattle.dcr_app.specs.Refusal.{refusal_line}
 use Rattle.dcr_app.specs.RunOf.{IsRunOf}
 use Rattle.dcr_app.specs.declared.app.End.{End}
 
@@ -17,13 +17,6 @@ use Rattle.dcr_app.specs.declared.app.End.{End}
 abbrev pub IsRun : List (String Global) → Type 0
 IsRun (word ∷ []) = string_bytes word ≡ codes "run"
 IsRun words = ⊥
-
--- the line that tells a refusal; want of memory has none
-abbrev pub refusal_line : CaseStop → List ℕ
-refusal_line stop.TooLong = codes "refused 1 too-long\n"
-refusal_line stop.NotJson = codes "refused 2 not-json\n"
-refusal_line stop.NotBuilt = codes "refused 0 not-built\n"
-refusal_line stop.NoMemory = []
 
 -- What was written of a text on each status: nothing where the input failed, a front of it and not all where the
 -- output failed, a front of it where memory ran out, and else all of it.
@@ -54,32 +47,32 @@ abbrev pub IsRunStatus : Status → Type 0
 IsRunStatus status = (status ≡ Done) ⊎ (status ≡ WriteFault) ⊎ (status ≡ NoMemory)
 
 -- a case that was run: the run is its run, and what was written is the report of it
-pub record Reports (case : Form) (closed : Closed) (before after : Option (List ℕ)) (status : Status) : Type 0 where
+pub record Reports (case : Spelled) (closed : Closed) (before after : Option (List ℕ)) (status : Status) : Type 0 where
   pub run : IsRunOf case closed
   pub ended : IsRunStatus status
-  pub wrote : Wrote status (report_text case.names case.sites closed) before after
+  pub wrote : Wrote status (report_text case.names case.cover.names closed) before after
 
 -- an accepted case: it was run, or memory ran out before it was
-abbrev pub Runs : Form → Option Closed → Option (List ℕ) → Option (List ℕ) → Status → Type 0
+abbrev pub Runs : Spelled → Option Closed → Option (List ℕ) → Option (List ℕ) → Status → Type 0
 Runs case None before after status = (status ≡ NoMemory) × Appends before after []
 Runs case (Some closed) before after status = Reports case closed before after status
 
 -- what a case, or its refusal, is answered
-abbrev pub Answers : Result Form CaseStop → Option (List ℕ) → Option (List ℕ) → End → Type 0
+abbrev pub Answers : Result Spelled CaseStop → Option (List ℕ) → Option (List ℕ) → End → Type 0
 Answers (Ok case) before after end = Runs case end.closed before after end.status
 Answers (Err why) before after end = Refuses why before after end
 
 -- The answer to an input that was read: of the bytes that were left, where the input tells them.
 pub record Told (left : Option (List ℕ)) (before after : Option (List ℕ)) (end : End) : Type 0 where
-  pub case : Result Form CaseStop
+  pub case : Result Spelled CaseStop
   pub spelled : IfSome left (λ bytes. case_in bytes ≡ case)
   pub answers : Answers case before after end
 
 -- The report that was written is that of the run of the case that the input spells.
 pub record Reported (left : Option (List ℕ)) (before after : Option (List ℕ)) (end : End) : Type 0 where
-  pub case : Form
+  pub case : Spelled
   pub spelled : IfSome left (λ bytes. case_in bytes ≡ Ok case)
   pub closed : Closed
   pub there : end.closed ≡ Some closed
   pub run : IsRunOf case closed
-  pub wrote : Appends before after (report_text case.names case.sites closed)
+  pub wrote : Appends before after (report_text case.names case.cover.names closed)

@@ -23,13 +23,18 @@ pub record AllStand (G : Rules) (C : List Set) (M : Marking) (sites : List Seen)
   pub as_many : length sites ≡ length C
   pub each : (i : ℕ) (site : Seen) → slice_get sites i ≡ Some site → StandsAt G (row C i) M site
 
+-- a projection over so many atoms
+pub record IsOver (atoms : ℕ) (site : Seen) : Type 0 where
+  pub own : length site.projection.own ≡ atoms
+  pub alphabet : length site.projection.alphabet ≡ atoms
+
 -- each projection is one over so many atoms
 abbrev pub AreOver : ℕ → List Seen → Type 0
-AreOver atoms sites = (i : ℕ) (site : Seen) → slice_get sites i ≡ Some site → length site.projection.own ≡ atoms
+AreOver atoms sites = (i : ℕ) (site : Seen) → slice_get sites i ≡ Some site → IsOver atoms site
 
--- the event is an atom of each projection
+-- each projection is one over atoms of which the event is one
 abbrev pub AreOverMore : ℕ → List Seen → Type 0
-AreOverMore e sites = (i : ℕ) (site : Seen) → slice_get sites i ≡ Some site → e < length site.projection.own
+AreOverMore e sites = (atoms : ℕ) × (e < atoms) × AreOver atoms sites
 
 -- the site took in an execution: where it stood at a marking, it stands at the stepped one
 pub record Heard (e : ℕ) (before after : Seen) : Type 0 where

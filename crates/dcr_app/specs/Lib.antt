@@ -1,4 +1,5 @@
 pub mod Engine
 pub mod SitesModel
 pub mod RunOf
+pub mod Refusal
 pub mod Ends

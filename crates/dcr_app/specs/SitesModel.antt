@@ -1,17 +1,19 @@
--- What the fields of a member and of the sites stand for.
-use Rattle.std.specs.Prelude.{◌≡◌, length}
+-- What the fields of the sites stand for.
+use Rattle.std.specs.Prelude.{◌≡◌, List, map}
+use Rattle.dcr_set.specs.EventSet.{Set}
+use Rattle.dcr_proj.specs.CoverValue.{atoms_of}
+use Rattle.dcr_site.specs.Seen.{Seen}
 use Rattle.dcr_app.specs.Engine.{Engine, AreOver}
-use Rattle.dcr_app.specs.declared.sites.Member.TheInside as member
-use Rattle.dcr_app.specs.declared.sites.Sites.TheInside as sites
+use Rattle.dcr_app.specs.declared.sites.Sites.TheInside.{Inside}
 
--- the alphabet is that of the site's projection
-pub record HearsAlphabet (m : member.Inside) : Type 0 where
-  pub alphabet : m.alphabet ≡ m.site.projection.alphabet
-  pub room : length m.alphabet ≡ length m.site.projection.own
+abbrev pub engine_of : Inside → Engine
+engine_of s = record { atoms = atoms_of s.network; sites = s.members.items }
 
-abbrev pub engine_of : sites.Inside → Engine
-engine_of s = record { atoms = s.atoms; sites = s.members.items }
+-- the alphabets of sites
+abbrev pub alphabets_in : List Seen → List Set
+alphabets_in sites = map (λ site. site.projection.alphabet) sites
 
--- each projection is one over the atoms
-abbrev pub AreOverAtoms : sites.Inside → Type 0
-AreOverAtoms s = AreOver s.atoms s.members.items
+-- each projection is one over the atoms, and the network is that of the alphabets
+pub record AreInNetwork (s : Inside) : Type 0 where
+  pub over : AreOver (atoms_of s.network) s.members.items
+  pub alphabets : s.network ≡ alphabets_in s.members.items

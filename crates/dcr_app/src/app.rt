@@ -2,15 +2,16 @@ ghost use Rattle.std.specs.Prelude.{◌≡◌, ◌≢◌, ◌⊎◌, ◌↔◌, 
 ghost use Rattle.std.specs.Io.KnownBytes.{Appends};
 ghost use Rattle.dcr_base.specs.Count.{Rose};
 ghost use Rattle.dcr_base.specs.declared.status.Status.TheVariants as status;
-ghost use Rattle.dcr_json.specs.Built.{form_of, IsCase};
+ghost use Rattle.dcr_json.specs.Built.{case_of, IsCase};
 ghost use Rattle.dcr_json.specs.Case.{case_in};
-ghost use Rattle.dcr_json.specs.Form.{Form};
+ghost use Rattle.dcr_json.specs.Judged.{Spelled};
 ghost use Rattle.dcr_json.specs.declared.case.CaseStop.{CaseStop as Stop};
 ghost use Rattle.dcr_report.specs.Report.{report_text};
 ghost use Rattle.dcr_report.specs.Fits.{FitsClosed};
 ghost use Rattle.dcr_app.specs.RunOf.{IsRunOf};
 ghost use Rattle.dcr_app.specs.Ends.{IsRun, Wrote, SaysLine, SaysUsage, Refuses, Answers, Told, Reported, IsRunStatus};
 
+use crate::refusal::line_of;
 use crate::run::{Ran, run_case};
 use dcr_base::{ReadStop, Sink, Source, Status, read_all, write_all};
 use dcr_journal::Closed;
@@ -54,7 +55,7 @@ pub fn dcr<R, I: Source, O: Sink>(
     ensures writes_never_fall { O.write_faults output.old ≤ O.write_faults output.new }
     ensures report { result.status ≡ Status.Done → Reported (I.left input.old) (O.taken output.old) (O.taken output.new) result }
     ensures usage_only { result.status ≡ Status.Usage → IsRun words.now → ⊥ }
-    ensures done { IsRun words.now → IfSome (I.left input.old) (λ bytes. (case : Form) → case_in bytes ≡ Ok case
+    ensures done { IsRun words.now → IfSome (I.left input.old) (λ bytes. (case : Spelled) → case_in bytes ≡ Ok case
         → (Rose (I.read_faults input.old) (I.read_faults input.new) → ⊥)
         → (Rose (O.write_faults output.old) (O.write_faults output.new) → ⊥)
         → (result.status ≡ Status.Done) ⊎ (result.status ≡ Status.NoMemory)) }
@@ -108,7 +109,7 @@ fn run<I: Source, O: Sink>(alloc: Global, input: &mut I, output: &mut O) -> End
 {
     match read_all(alloc, input, MAX_BYTES) {
         Ok(bytes) => run_bytes(alloc, &bytes, output),
-        Err(ReadStop::TooLong) => refuse(output, CaseStop::TooLong),
+        Err(ReadStop::TooLong) => refuse(alloc, output, CaseStop::TooLong),
         Err(ReadStop::ReadFault) => End {
             status: Status::ReadFault,
             closed: None,
@@ -130,22 +131,26 @@ fn run_bytes<O: Sink>(alloc: Global, bytes: &[u8], output: &mut O) -> End
 {
     match read_case(alloc, bytes) {
         Ok(case) => run_and_report(alloc, case, output),
-        Err(stop) => refuse(output, stop),
+        Err(stop) => refuse(alloc, output, stop),
     }
 }
 
 // Tells a refusal.
-fn refuse<O: Sink>(output: &mut O, stop: CaseStop) -> End
+fn refuse<O: Sink>(alloc: Global, output: &mut O, stop: CaseStop) -> End
     ensures refuses { Refuses stop (O.taken output.old) (O.taken output.new) result }
     ensures starves { stop ≡ CaseStop.NoMemory → result.status ≡ Status.NoMemory }
     ensures counted { result.status ≡ Status.WriteFault → Rose (O.write_faults output.old) (O.write_faults output.new) }
     ensures never_falls { O.write_faults output.old ≤ O.write_faults output.new }
 {
-    match stop {
-        CaseStop::TooLong => say(output, b"refused 1 too-long\n", Status::Refused),
-        CaseStop::NotJson => say(output, b"refused 2 not-json\n", Status::Refused),
-        CaseStop::NotBuilt => say(output, b"refused 0 not-built\n", Status::Refused),
-        CaseStop::NoMemory => End {
+    if let CaseStop::NoMemory = stop {
+        return End {
+            status: Status::NoMemory,
+            closed: None,
+        };
+    }
+    match line_of(alloc, &stop) {
+        Ok(line) => say(output, &line, Status::Refused),
+        Err(_) => End {
             status: Status::NoMemory,
             closed: None,
         },
@@ -154,8 +159,8 @@ fn refuse<O: Sink>(output: &mut O, stop: CaseStop) -> End
 
 // Runs a case and writes the report of the run.
 fn run_and_report<O: Sink>(alloc: Global, case: Case, output: &mut O) -> End
-    requires { IsCase (form_of case) }
-    ensures answers { Answers (Ok (form_of case)) (O.taken output.old) (O.taken output.new) result }
+    requires { IsCase (case_of case) }
+    ensures answers { Answers (Ok (case_of case)) (O.taken output.old) (O.taken output.new) result }
     ensures counted { result.status ≡ Status.WriteFault → Rose (O.write_faults output.old) (O.write_faults output.new) }
     ensures never_falls { O.write_faults output.old ≤ O.write_faults output.new }
 {
@@ -170,14 +175,20 @@ fn run_and_report<O: Sink>(alloc: Global, case: Case, output: &mut O) -> End
 
 // Writes the report of a run.
 fn report<O: Sink>(alloc: Global, ran: Ran, output: &mut O) -> End
-    requires { FitsClosed (length ran.graph.names) (length ran.sites.items) ran.closed }
+    requires { FitsClosed (length ran.graph.names) (length ran.cover.names) ran.closed }
     ensures closed { result.closed ≡ Some ran.closed }
     ensures status { IsRunStatus result.status }
-    ensures wrote { Wrote result.status (report_text ran.graph.names ran.sites.items ran.closed) (O.taken output.old) (O.taken output.new) }
+    ensures wrote { Wrote result.status (report_text ran.graph.names ran.cover.names ran.closed) (O.taken output.old) (O.taken output.new) }
     ensures counted { result.status ≡ Status.WriteFault → Rose (O.write_faults output.old) (O.write_faults output.new) }
     ensures never_falls { O.write_faults output.old ≤ O.write_faults output.new }
 {
-    let status = match write_report(alloc, &ran.graph, &ran.sites, &ran.closed, output) {
+    let status = match write_report(
+        alloc,
+        &ran.graph,
+        ran.cover.site_names(),
+        &ran.closed,
+        output,
+    ) {
         Ok(()) => Status::Done,
         Err(ReportStop::WriteFault) => Status::WriteFault,
         Err(ReportStop::NoMemory) => Status::NoMemory,

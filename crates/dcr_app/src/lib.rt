@@ -2,7 +2,7 @@
 #![tactic(auto)]
 
 mod app;
-mod built;
+mod refusal;
 mod run;
 mod session;
 mod sites;

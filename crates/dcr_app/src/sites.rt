@@ -6,80 +6,24 @@ ghost use Rattle.dcr_graph.specs.Rules.{Rules};
 ghost use Rattle.dcr_graph.specs.declared.marking.Marking.{Marking as Marks};
 ghost use Rattle.dcr_graph.specs.GraphValue.{rules_of};
 ghost use Rattle.dcr_graph.specs.Projection.{HasRoom};
+ghost use Rattle.dcr_proj.specs.NetworkValue.{participants_of};
+ghost use Rattle.dcr_app.specs.SitesModel.{alphabets_in};
 ghost use Rattle.dcr_app.specs.Engine.{AllStand, AreOver, AreOverMore, HeardEach, waits_in, lesser_of, told_by};
 
 use dcr_graph::{Cause, Graph, Marking, SiteMark};
 use dcr_journal::{Call, MarkList, Outcome};
+use dcr_proj::{Cover, Network, project};
 use dcr_set::{EventId, EventSet, NoMemory, SiteId};
-use dcr_site::{Decision, Site, project};
+use dcr_site::{Decision, Site};
 use std::alloc::Global;
 use std::marker::Model;
-
-// A site with its alphabet, by which it hears of executions. Contracts see the site.
-#[derive(Drop)]
-struct Member {
-    alphabet: EventSet,
-    site: Site,
-}
-
-impl Model for Member {
-    ghost use Rattle.dcr_site.specs.Seen.{Seen};
-
-    ghost Value = { Seen };
-
-    ghost use Rattle.dcr_app.specs.SitesModel.{HearsAlphabet};
-
-    ghost view = { λ m. m.site };
-
-    ghost invariant = { HearsAlphabet };
-}
-
-impl Member {
-    ghost use Rattle.std.specs.Prelude.{◌≡◌, ◌<◌, List, Bool, length, IfOk};
-    ghost use Rattle.dcr_set.specs.EventSet.{Set};
-    ghost use Rattle.dcr_graph.specs.Rules.{Rules};
-    ghost use Rattle.dcr_graph.specs.Step.{step};
-    ghost use Rattle.dcr_graph.specs.GraphValue.{rules_of};
-    ghost use Rattle.dcr_graph.specs.Projection.{HasRoom};
-    ghost use Rattle.dcr_graph.specs.declared.marking.Marking.{Marking as Marks};
-    ghost use Rattle.dcr_site.specs.Seen.{StandsAt};
-
-    // The site that owns this set, at the opening marking.
-    fn open(
-        alloc: Global,
-        graph: &Graph,
-        own: &EventSet,
-        opening: &Marking,
-    ) -> Result<Member, NoMemory>
-        requires own { length own.now ≡ length graph.now.names }
-        requires opening { HasRoom (length graph.now.names) opening.now }
-        ensures own { IfOk result (λ site. site.projection.own ≡ own.now) }
-        ensures stands { IfOk result (StandsAt (rules_of graph.now) own.now opening.now) }
-    {
-        let projection = project(alloc, graph, own)?;
-        let alphabet = projection.alphabet().copy();
-        let site = Site::open(projection, opening);
-        Ok(Member { alphabet, site })
-    }
-
-    // Takes in that an event was executed: its marks change only where the event is in the alphabet.
-    fn hear(&mut self, e: EventId)
-        requires { e < length self.old.projection.own }
-        ensures projection { self.new.projection ≡ self.old.projection }
-        ensures stepped { (G : Rules) (S : Set) (M : Marks) → StandsAt G S M self.old → StandsAt G S (step G M e) self.new }
-    {
-        if self.alphabet.contains(e) {
-            self.site.apply(e);
-        }
-    }
-}
 
 /// The sites of a run, in order. Contracts see them as `Engine`; what they say of a graph holds where the
 /// sites stand together at a marking of that graph (`AllStand`).
 #[derive(Drop)]
 pub struct Sites {
-    atoms: u16,
-    members: Vec<Member>,
+    network: Network,
+    members: Vec<Site>,
 }
 
 impl Model for Sites {
@@ -87,15 +31,15 @@ impl Model for Sites {
 
     ghost Value = { Engine };
 
-    ghost use Rattle.dcr_app.specs.SitesModel.{engine_of, AreOverAtoms};
+    ghost use Rattle.dcr_app.specs.SitesModel.{engine_of, AreInNetwork};
 
     ghost view = { engine_of };
 
-    ghost invariant = { AreOverAtoms };
+    ghost invariant = { AreInNetwork };
 }
 
 impl Sites {
-    ghost use Rattle.std.specs.Prelude.{◌≡◌, ◌<◌, List, length, IfOk};
+    ghost use Rattle.std.specs.Prelude.{◌≡◌, ◌<◌, List, length, IfOk, OnOk};
     ghost use Rattle.std.specs.List.{All};
     ghost use Rattle.dcr_set.specs.EventSet.{Set};
     ghost use Rattle.dcr_graph.specs.Rules.{Rules};
@@ -108,22 +52,25 @@ impl Sites {
     ghost use Rattle.dcr_journal.specs.Run.{IsInRange, stepped_by, marks_at};
     ghost use Rattle.dcr_app.specs.Engine.{AllStand, Covers};
 
-    /// The sites that own these sets, at the opening marking.
+    /// The sites of the cover, which is one of the graph's atoms, at the opening marking.
     pub fn open(
         alloc: Global,
         graph: &Graph,
-        owned: &[EventSet],
+        cover: &Cover,
         opening: &Marking,
     ) -> Result<Sites, NoMemory>
-        requires owned { All (λ set. length set ≡ length graph.now.names) owned.now }
+        requires rooms { All (λ set. length set ≡ length graph.now.names) cover.now.owned }
         requires opening { HasRoom (length graph.now.names) opening.now }
         ensures atoms { IfOk result (λ engine. engine.atoms ≡ length graph.now.names) }
-        ensures stand { IfOk result (λ engine. AllStand (rules_of graph.now) owned.now opening.now engine.sites) }
+        ensures stand { IfOk result (λ engine. AllStand (rules_of graph.now) cover.now.owned opening.now engine.sites) }
+        ensures covers { OnOk result (Covers (length graph.now.names) cover.now.owned) }
+        ensures as_many { OnOk result (length cover.now.owned ≡ length cover.now.names) }
     {
-        let members = open_each(alloc, graph, owned, opening)?;
+        let opened = open_each(alloc, graph, cover.owned_sets(), opening)?;
+        let network = Network::new(alloc, opened.alphabets)?;
         Ok(Sites {
-            atoms: graph.atoms(),
-            members,
+            network,
+            members: opened.members,
         })
     }
 
@@ -164,17 +111,18 @@ impl Sites {
         requires event { e < self.now.atoms }
         ensures { (G : Rules) (C : List Set) (M : Marks) → AllStand G C M self.now.sites → result ≡ answer G C M (Call.Exec site e) }
     {
-        outcome_of(self.members[usize::from(site.0)].site.decide(e))
+        outcome_of(self.members[usize::from(site.0)].decide(e))
     }
 
-    // Applies an execution at every site that hears of it.
+    // Applies an execution at the sites whose alphabet has the event, and at no other.
     fn apply(&mut self, e: EventId)
         requires { e < self.old.atoms }
         ensures atoms { self.new.atoms ≡ self.old.atoms }
         ensures as_many { length self.new.sites ≡ length self.old.sites }
         ensures stepped { (G : Rules) (C : List Set) (M : Marks) → AllStand G C M self.old.sites → AllStand G C (step G M e) self.new.sites }
     {
-        hear_each(&mut self.members, e);
+        let participants = self.network.participants(e);
+        hear_each(&mut self.members, participants, e);
     }
 
     /// The marks of each site.
@@ -193,53 +141,67 @@ impl Sites {
     }
 }
 
+// Sites that were opened, and beside them their alphabets.
+#[derive(Drop)]
+struct Opened {
+    alphabets: Vec<EventSet>,
+    members: Vec<Site>,
+}
+
 // A site for each owned set.
 fn open_each(
     alloc: Global,
     graph: &Graph,
     owned: &[EventSet],
     opening: &Marking,
-) -> Result<Vec<Member>, NoMemory>
+) -> Result<Opened, NoMemory>
     requires owned { All (λ set. length set ≡ length graph.now.names) owned.now }
     requires opening { HasRoom (length graph.now.names) opening.now }
-    ensures over { IfOk result (λ members. AreOver (length graph.now.names) members.items) }
-    ensures stand { IfOk result (λ members. AllStand (rules_of graph.now) owned.now opening.now members.items) }
+    ensures over { IfOk result (λ opened. AreOver (length graph.now.names) opened.members.items) }
+    ensures stand { IfOk result (λ opened. AllStand (rules_of graph.now) owned.now opening.now opened.members.items) }
+    ensures alphabets { IfOk result (λ opened. opened.alphabets.items ≡ alphabets_in opened.members.items) }
 {
+    let mut alphabets = Vec::with_capacity(alloc, owned.len())?;
     let mut members = Vec::with_capacity(alloc, owned.len())?;
     for own in owned {
-        members.push(Member::open(alloc, graph, own, opening)?)?;
+        let projection = project(alloc, graph, own)?;
+        let heard = projection.alphabet().copy();
+        alphabets.push(heard)?;
+        members.push(Site::open(projection, opening))?;
     }
-    Ok(members)
+    Ok(Opened { alphabets, members })
 }
 
-// Lets each site take in that an event was executed.
-fn hear_each(members: &mut [Member], e: EventId)
-    requires { AreOverMore e members.old }
+// Applies an execution at the participants.
+fn hear_each(members: &mut [Site], participants: &[SiteId], e: EventId)
+    requires over { AreOverMore e members.old }
+    requires all { participants.now ≡ participants_of (alphabets_in members.old) e }
     ensures { HeardEach e members.old members.new }
 {
-    for member in members.iter_mut() {
-        member.hear(e);
+    for participant in participants {
+        let member = &mut members[usize::from(participant.0)];
+        member.apply(e);
     }
 }
 
 // The marks of each site.
-fn marks_of_each(alloc: Global, members: &[Member]) -> Result<Vec<SiteMark>, NoMemory>
+fn marks_of_each(alloc: Global, members: &[Site]) -> Result<Vec<SiteMark>, NoMemory>
     ensures { IfOk result (λ marks. marks.items ≡ map (λ site. site.mark) members.now) }
 {
     let mut marks = Vec::with_capacity(alloc, members.len())?;
     for member in members {
-        marks.push(member.site.mark())?;
+        marks.push(member.mark())?;
     }
     Ok(marks)
 }
 
 // The least atom for which a site waits.
-fn first_of_each(members: &[Member]) -> Option<EventId>
+fn first_of_each(members: &[Site]) -> Option<EventId>
     ensures { (G : Rules) (C : List Set) (M : Marks) → AllStand G C M members.now → result ≡ least G.atoms (waits_in C M) }
 {
     let mut first = None;
     for member in members {
-        first = lesser(first, member.site.first_waiting());
+        first = lesser(first, member.first_waiting());
     }
     first
 }

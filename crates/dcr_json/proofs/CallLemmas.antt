@@ -10,9 +10,9 @@ use Rattle.std.proofs.lemmas.Option.{option_and_then_some, same_Some}
 use Rattle.dcr_set.proofs.LeastLemmas.{least-some, least-from}
 use Rattle.dcr_graph.specs.Names.{AreDistinct, is_name, is_name_byte, is_letter, number_of}
 use Rattle.dcr_journal.specs.declared.call.Call.TheVariants.{Exec}
-use Rattle.dcr_json.specs.Form.{is_space, call_named}
+use Rattle.dcr_json.specs.CallLine.{is_space, call_named}
 use Rattle.dcr_json.specs.CallLine.{AreNames, CallLinesAreRead}
-use Rattle.dcr_json.proofs.CaseLemmas.{passed, number_below}
+use Rattle.dcr_json.proofs.FormLemmas.{passed, number_below}
 
 -- a name is found at its place
 found_at : (names : List (List ℕ)) → AreDistinct names → (k : ℕ) → k < length names → number_of names (get_or names k []) ≡ Some k

@@ -1,6 +1,8 @@
 pub mod EachLemmas
 pub mod NameLemmas
-pub mod CoverLemmas
 pub mod JsonLemmas
-pub mod CaseLemmas
+pub mod RefusingLemmas
+pub mod OpeningLemmas
+pub mod FormLemmas
 pub mod CallLemmas
+pub mod JudgeLemmas

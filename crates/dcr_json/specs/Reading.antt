@@ -1,5 +1,5 @@
 -- Words for reading a JSON value step by step: each step gives what it reads, or none.
-use Rattle.std.specs.Prelude.{Bool, List, [], ◌∷◌, Option, Some, None, option_map, option_and_then, if◌then◌else◌}
+use Rattle.std.specs.Prelude.{Bool, List, [], ◌∷◌, map, Option, Some, None, option_map, option_and_then, if◌then◌else◌}
 use Rattle.serde_json.specs.Data.{Data, Items, no_items, item}
 use Rattle.serde_json.specs.Find.{as_array}
 
@@ -16,6 +16,10 @@ where_true test o = if test then o else None
 abbrev pub each : {A B : Type 0} → (A → Option B) → List A → Option (List B)
 each read [] = Some []
 each read (x ∷ xs) = read x >>= λ y. each read xs >>= λ ys. Some (y ∷ ys)
+
+-- the first parts of pairs in order, and the second parts
+abbrev pub parted : {A B : Type 0} → List (A × B) → List A × List B
+parted pairs = (map (λ pair. pair.0) pairs, map (λ pair. pair.1) pairs)
 
 -- the elements of an array in order
 abbrev pub listed : Items → List Data

@@ -1,14 +1,18 @@
 //! Case files: the case that the bytes of a file spell, or why they are refused.
 #![tactic(auto)]
 
+mod calls;
 mod case;
-mod cover;
 mod events;
+mod form;
+mod judge;
 mod laws;
 mod names;
+mod opening;
 mod read;
 mod relations;
 mod sessions;
+mod sites;
 #[cfg(test)]
 mod tests;
 mod value;

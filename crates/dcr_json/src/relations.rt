@@ -81,5 +81,14 @@ fn read_kind(value: &Value) -> Result<Kind, CaseStop>
     if text == "response" {
         return Ok(Kind::Response);
     }
+    if text == "milestone" {
+        return Ok(Kind::Milestone);
+    }
+    if text == "include" {
+        return Ok(Kind::Include);
+    }
+    if text == "exclude" {
+        return Ok(Kind::Exclude);
+    }
     Err(CaseStop::NotBuilt)
 }

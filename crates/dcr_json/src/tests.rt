@@ -1,9 +1,9 @@
-use crate::{Case, CaseStop, read_case};
+// Case files and what they are read as, or refused for, told by hand.
+use crate::{CaseStop, read_case};
 use dcr_graph::Kind;
 use dcr_journal::Call;
-use dcr_set::{EventId, SiteId};
+use dcr_set::{EventId, EventSet, SiteId};
 use std::alloc::{AllocError, Global};
-use std::process::Abort;
 use std::test::Fail;
 
 const EVENTS: &str = r#"{"name":"a"},{"name":"b"},{"name":"c"}"#;
@@ -70,53 +70,79 @@ fn sites(alloc: Global, count: u32) -> Result<String, AllocError> {
     Ok(text)
 }
 
-// That the bytes are refused in this way, or read where none is given.
-fn assert_stop(rt: &impl Abort, alloc: Global, bytes: &[u8], stop: Option<CaseStop>, row: &str) {
-    assert_eq!(rt; read_case(alloc, bytes).err(), stop, "{row}");
+// What the bytes are refused for; `read` where they are read.
+fn told(alloc: Global, bytes: &[u8]) -> Result<String, AllocError> {
+    match read_case(alloc, bytes) {
+        Ok(_) => String::from_str(alloc, "read"),
+        Err(stop) => told_of(alloc, &stop),
+    }
+}
+
+fn told_of(alloc: Global, stop: &CaseStop) -> Result<String, AllocError> {
+    match stop {
+        CaseStop::TooLong => String::from_str(alloc, "too-long"),
+        CaseStop::NotJson => String::from_str(alloc, "not-json"),
+        CaseStop::NotBuilt => String::from_str(alloc, "not-built"),
+        CaseStop::Clash { a, b } => {
+            let (a, b) = (a.text(), b.text());
+            format!(in alloc; "clash {a} {b}")
+        }
+        CaseStop::SiteName { i } => format!(in alloc; "site-name {i}"),
+        CaseStop::Owned { i, j } => format!(in alloc; "owned {i} {j}"),
+        CaseStop::Uncovered { a } => {
+            let a = a.text();
+            format!(in alloc; "uncovered {a}")
+        }
+        CaseStop::CallLine { k, j } => format!(in alloc; "call-line {k} {j}"),
+        CaseStop::NoMemory => String::from_str(alloc, "no-memory"),
+    }
+}
+
+// Which of the atoms 0, 1, 2 are in the set.
+fn members(set: &EventSet) -> [bool; 3] {
+    [
+        set.contains(EventId(0)),
+        set.contains(EventId(1)),
+        set.contains(EventId(2)),
+    ]
 }
 
 #[test]
 fn reads_each_field(rt: HostRuntime) -> Result<(), Fail> {
     let text = r#"{"note": [1.5, null], "sessions": [["exec Y c", "exec X a"]],
         "cover": [{"site": "X", "events": ["a", "b"]}, {"events": ["c", "b", "c"], "site": "Y", "at": 1}],
-        "graph": {"relations": [["condition", "a", "b"], ["response", "c", "a"]],
-            "events": [{"name": "a"}, {"name": "b", "title": "B"}, {"name": "c"}]}}"#;
+        "graph": {"relations": [["condition", "a", "b"], ["response", "c", "a"], ["milestone", "a", "c"], ["include", "b", "c"],
+                ["exclude", "b", "a"]],
+            "events": [{"name": "a", "pending": true}, {"name": "b", "title": "B", "included": false}, {"name": "c", "executed": true, "pending": false}]}}"#;
     let case = read_case(rt.alloc(), text.as_bytes())?;
-    let Case {
-        names,
-        pairs,
-        sites,
-        owned,
-        sessions,
-    } = case;
-    assert_eq!(rt; names.len(), 3);
-    for (name, want) in names.iter().zip(["a", "b", "c"].iter()) {
-        assert_eq!(rt; name.text(), *want);
+    assert_eq!(rt; case.graph.atoms(), 3);
+    for (number, name) in [(0, "a"), (1, "b"), (2, "c")] {
+        assert!(rt; number < case.graph.atoms());
+        assert_eq!(rt; case.graph.name(EventId(number)).text(), name);
+        assert_eq!(rt; case.graph.label(EventId(number)).text(), name);
     }
-    assert_eq!(rt;
-        pairs.as_slice(),
-        [
-            (Kind::Condition, EventId(0), EventId(1)),
-            (Kind::Response, EventId(2), EventId(0)),
-        ]
-        .as_slice()
-    );
-    assert_eq!(rt; sites.len(), 2);
-    for (name, want) in sites.iter().zip(["X", "Y"].iter()) {
-        assert_eq!(rt; name.text(), *want);
+    for (kind, from, targets) in [
+        (Kind::Condition, 0, [false, true, false]),
+        (Kind::Response, 2, [true, false, false]),
+        (Kind::Milestone, 0, [false, false, true]),
+        (Kind::Include, 1, [false, false, true]),
+        (Kind::Exclude, 1, [true, false, false]),
+        (Kind::Cancel, 1, [false, false, false]),
+    ] {
+        assert!(rt; from < case.graph.atoms());
+        assert_eq!(rt; members(case.graph.targets(kind, EventId(from))), targets);
     }
-    assert_eq!(rt; owned.len(), 2);
-    for (set, want) in owned
-        .iter()
-        .zip([[true, true, false], [false, true, true]].iter())
-    {
-        assert_eq!(rt; set.room(), 3);
-        for k in 0..3u16 {
-            assert_eq!(rt; set.contains(EventId(k)), want[k as usize]);
-        }
+    assert_eq!(rt; case.cover.sites(), 2);
+    for (number, name, owned) in [(0, "X", [true, true, false]), (1, "Y", [false, true, true])] {
+        assert!(rt; number < case.cover.sites());
+        assert_eq!(rt; case.cover.name(SiteId(number)).text(), name);
+        assert_eq!(rt; members(case.cover.owned(SiteId(number))), owned);
     }
-    assert_eq!(rt; sessions.len(), 1);
-    for calls in &sessions {
+    assert_eq!(rt; members(&case.opening.executed), [false, false, true]);
+    assert_eq!(rt; members(&case.opening.pending), [true, false, false]);
+    assert_eq!(rt; members(&case.opening.included), [true, false, true]);
+    assert_eq!(rt; case.sessions.len(), 1);
+    for calls in &case.sessions {
         assert_eq!(rt; calls.len(), 2);
         assert_eq!(rt;
             calls.get(0).copied(),
@@ -131,7 +157,7 @@ fn reads_each_field(rt: HostRuntime) -> Result<(), Fail> {
 }
 
 #[test]
-fn refuses_other_forms(rt: HostRuntime) {
+fn refuses_other_forms(rt: HostRuntime) -> Result<(), Fail> {
     let alloc = rt.alloc();
     for text in [
         "[]",
@@ -146,109 +172,148 @@ fn refuses_other_forms(rt: HostRuntime) {
         r#"{"graph":{"events":[]},"cover":[{"site":"X"}]}"#,
         r#"{"graph":{"events":[]},"cover":[{"site":"X","events":[]}],"sessions":null}"#,
     ] {
-        assert_stop(&rt, alloc, text.as_bytes(), Some(CaseStop::NotBuilt), text);
+        assert_eq!(rt;
+            told(alloc, text.as_bytes())?.as_str(),
+            "not-built",
+            "{text}"
+        );
     }
     let least = r#"{"graph":{"events":[]},"cover":[{"site":"X","events":[]}]}"#;
-    assert_stop(&rt, alloc, least.as_bytes(), None, least);
+    assert_eq!(rt; told(alloc, least.as_bytes())?.as_str(), "read");
+    Ok(())
 }
 
 #[test]
-fn refuses_wrong_events(rt: HostRuntime) -> Result<(), Fail> {
+fn tells_what_is_wrong_with_events(rt: HostRuntime) -> Result<(), Fail> {
     let alloc = rt.alloc();
-    for (b, stop) in [
-        (r#"{"name":"b"}"#, None),
-        (r#"{"name":"b","title":"B"}"#, None),
-        (r#"{"name":"b","label":"B"}"#, Some(CaseStop::NotBuilt)),
-        (r#"{"name":"b","parent":"a"}"#, Some(CaseStop::NotBuilt)),
-        (r#"{"name":"b","executed":true}"#, Some(CaseStop::NotBuilt)),
-        (r#"{"name":"b","pending":null}"#, Some(CaseStop::NotBuilt)),
-        (r#"{"name":"b","included":false}"#, Some(CaseStop::NotBuilt)),
-        (r#"{"name":"b"},{"name":"d"}"#, Some(CaseStop::NotBuilt)),
-        (r#"{"name":"b"},{"name":"a"}"#, Some(CaseStop::NotBuilt)),
-        (r#"{"name":"b"},{"name":"1"}"#, Some(CaseStop::NotBuilt)),
-        (r#"{"name":"b"},{"name":3}"#, Some(CaseStop::NotBuilt)),
-        (r#"{"name":"b"},{}"#, Some(CaseStop::NotBuilt)),
-        (r#"{"name":"b"},"d""#, Some(CaseStop::NotBuilt)),
+    for (events, answer) in [
+        (r#"{"name":"b"}"#, "read"),
+        (r#"{"name":"b","title":"B"}"#, "read"),
+        (
+            r#"{"name":"b","executed":true,"pending":true,"included":false}"#,
+            "read",
+        ),
+        (r#"{"name":"b","label":"B"}"#, "not-built"),
+        (r#"{"name":"b","parent":"a"}"#, "not-built"),
+        (r#"{"name":"b","executed":1}"#, "not-built"),
+        (r#"{"name":"b","pending":null}"#, "not-built"),
+        (r#"{"name":"b","included":"true"}"#, "not-built"),
+        (r#"{"name":"b"},{"name":"d"}"#, "uncovered d"),
+        (r#"{"name":"b"},{"name":"a"}"#, "not-built"),
+        (r#"{"name":"b"},{"name":"1"}"#, "not-built"),
+        (r#"{"name":"b"},{"name":3}"#, "not-built"),
+        (r#"{"name":"b"},{}"#, "not-built"),
     ] {
-        let events = format!(in alloc; "{{\"name\":\"a\"}},{b},{{\"name\":\"c\"}}")?;
+        let events = format!(in alloc; "{{\"name\":\"a\"}},{events},{{\"name\":\"c\"}}")?;
         let text = file(alloc, events.as_str(), "", COVER, "")?;
-        assert_stop(&rt, alloc, text.as_bytes(), stop, b);
+        assert_eq!(rt; told(alloc, text.as_bytes())?.as_str(), answer, "{text}");
     }
     Ok(())
 }
 
 #[test]
-fn refuses_wrong_relations(rt: HostRuntime) -> Result<(), Fail> {
+fn tells_what_is_wrong_with_relations(rt: HostRuntime) -> Result<(), Fail> {
     let alloc = rt.alloc();
-    for (relations, stop) in [
-        (r#"["condition","a","b"],["response","b","c"]"#, None),
+    for (relations, answer) in [
+        (r#"["condition","a","b"],["response","b","c"]"#, "read"),
+        (r#"["include","a","b"],["exclude","b","a"]"#, "read"),
         (
-            r#"["condition","a","b"],["include","b","c"]"#,
-            Some(CaseStop::NotBuilt),
+            r#"["include","b","c"],["include","b","a"],["exclude","b","c"],["exclude","b","a"]"#,
+            "clash b a",
         ),
-        (r#"["condition","a","d"]"#, Some(CaseStop::NotBuilt)),
-        (r#"["condition","d","a"]"#, Some(CaseStop::NotBuilt)),
-        (r#"["condition","a"]"#, Some(CaseStop::NotBuilt)),
-        (r#"["condition","a","b","c"]"#, Some(CaseStop::NotBuilt)),
-        (r#"["condition","a",1]"#, Some(CaseStop::NotBuilt)),
+        (r#"["exclude","a","a"],["include","a","a"]"#, "clash a a"),
+        (r#"["cancel","a","b"]"#, "not-built"),
+        (r#"["condition","a","d"]"#, "not-built"),
+        (r#"["condition","d","a"]"#, "not-built"),
+        (r#"["condition","a"]"#, "not-built"),
+        (r#"["condition","a","b","c"]"#, "not-built"),
+        (r#"["condition","a",1]"#, "not-built"),
     ] {
         let text = file(alloc, EVENTS, relations, COVER, "")?;
-        assert_stop(&rt, alloc, text.as_bytes(), stop, relations);
+        assert_eq!(rt;
+            told(alloc, text.as_bytes())?.as_str(),
+            answer,
+            "{relations}"
+        );
     }
     Ok(())
 }
 
 #[test]
-fn refuses_wrong_covers(rt: HostRuntime) -> Result<(), Fail> {
+fn tells_what_is_wrong_with_covers(rt: HostRuntime) -> Result<(), Fail> {
     let alloc = rt.alloc();
-    for (cover, stop) in [
-        (r#"{"site":"X","events":["a","b","c"]}"#, None),
-        (
-            r#"{"site":"X","events":["a","b"]}"#,
-            Some(CaseStop::NotBuilt),
-        ),
-        (
-            r#"{"site":"X","events":["a","b","c","d"]}"#,
-            Some(CaseStop::NotBuilt),
-        ),
-        (
-            r#"{"site":"X Y","events":["a","b","c"]}"#,
-            Some(CaseStop::NotBuilt),
-        ),
-        (r#"{"events":["a","b","c"]}"#, Some(CaseStop::NotBuilt)),
+    for (cover, answer) in [
+        (r#"{"site":"X","events":["a","b","c"]}"#, "read"),
+        (r#"{"site":"X","events":["a"]}"#, "uncovered b"),
+        (r#"{"site":"X","events":["a","b","zz","y"]}"#, "owned 0 2"),
+        (r#"{"site":"X Y","events":["zz"]}"#, "site-name 0"),
+        (r#"{"events":["a","b","c"]}"#, "not-built"),
         (
             r#"{"site":"X","events":["a","b"]},{"site":"X","events":["c"]}"#,
-            Some(CaseStop::NotBuilt),
+            "site-name 1",
+        ),
+        (
+            r#"{"site":"X","events":["a","zz"]},{"site":"X","events":["c"]}"#,
+            "owned 0 1",
         ),
     ] {
         let text = file(alloc, EVENTS, "", cover, "")?;
-        assert_stop(&rt, alloc, text.as_bytes(), stop, cover);
+        assert_eq!(rt; told(alloc, text.as_bytes())?.as_str(), answer, "{cover}");
     }
     Ok(())
 }
 
 #[test]
-fn refuses_wrong_sessions(rt: HostRuntime) -> Result<(), Fail> {
+fn tells_what_is_wrong_with_calls(rt: HostRuntime) -> Result<(), Fail> {
     let alloc = rt.alloc();
-    for (sessions, stop) in [
-        ("", None),
-        ("[]", None),
-        (r#"["exec X c","exec Y a"]"#, None),
-        ("[],[]", Some(CaseStop::NotBuilt)),
-        (r#"["exec  X a"]"#, Some(CaseStop::NotBuilt)),
-        (r#"["exec X  a"]"#, Some(CaseStop::NotBuilt)),
-        (r#"["exec X a "]"#, Some(CaseStop::NotBuilt)),
-        (r#"[" exec X a"]"#, Some(CaseStop::NotBuilt)),
-        (r#"["exec X"]"#, Some(CaseStop::NotBuilt)),
-        (r#"["exec"]"#, Some(CaseStop::NotBuilt)),
-        (r#"["run X a"]"#, Some(CaseStop::NotBuilt)),
-        (r#"["exec Z a"]"#, Some(CaseStop::NotBuilt)),
-        (r#"["exec X d"]"#, Some(CaseStop::NotBuilt)),
-        (r#"["exec X a",null]"#, Some(CaseStop::NotBuilt)),
-        (r#""exec X a""#, Some(CaseStop::NotBuilt)),
+    for (sessions, answer) in [
+        ("", "read"),
+        ("[]", "read"),
+        (r#"["exec X c","exec Y a"]"#, "read"),
+        ("[],[]", "not-built"),
+        (r#"["exec X a","exec  X a"]"#, "call-line 0 1"),
+        (r#"["exec X  a"]"#, "call-line 0 0"),
+        (r#"["exec X a "]"#, "call-line 0 0"),
+        (r#"["exec X"]"#, "call-line 0 0"),
+        (r#"["exec Z a"]"#, "call-line 0 0"),
+        (
+            r#"["exec X a","exec X c","exec X d","exec Z a"]"#,
+            "call-line 0 2",
+        ),
+        (r#"[" exec X a"]"#, "not-built"),
+        (r#"["exec Z a","exec"]"#, "not-built"),
+        (r#"["run X a"]"#, "not-built"),
+        (r#"["exec X a",null]"#, "not-built"),
+        (r#""exec X a""#, "not-built"),
     ] {
         let text = file(alloc, EVENTS, "", COVER, sessions)?;
-        assert_stop(&rt, alloc, text.as_bytes(), stop, sessions);
+        assert_eq!(rt;
+            told(alloc, text.as_bytes())?.as_str(),
+            answer,
+            "{sessions}"
+        );
+    }
+    Ok(())
+}
+
+// What is refused is what is tried first.
+#[test]
+fn refuses_in_order(rt: HostRuntime) -> Result<(), Fail> {
+    let alloc = rt.alloc();
+    let clash = r#"["include","a","a"],["exclude","a","a"]"#;
+    let owned = r#"{"site":"X","events":["zz"]}"#;
+    let bare = r#"{"site":"X","events":[]}"#;
+    let call = r#"["exec X zz"]"#;
+    for (relations, cover, sessions, answer) in [
+        (r#"["cancel","a","a"]"#, owned, call, "not-built"),
+        (clash, owned, "[],[]", "not-built"),
+        (clash, owned, call, "clash a a"),
+        ("", owned, call, "owned 0 0"),
+        ("", bare, call, "uncovered a"),
+        ("", COVER, call, "call-line 0 0"),
+    ] {
+        let text = file(alloc, EVENTS, relations, cover, sessions)?;
+        assert_eq!(rt; told(alloc, text.as_bytes())?.as_str(), answer, "{text}");
     }
     Ok(())
 }
@@ -256,7 +321,7 @@ fn refuses_wrong_sessions(rt: HostRuntime) -> Result<(), Fail> {
 #[test]
 fn keeps_the_limits(rt: HostRuntime) -> Result<(), Fail> {
     let alloc = rt.alloc();
-    for (letters, stop) in [(64, None), (65, Some(CaseStop::NotBuilt))] {
+    for (letters, answer) in [(64, "read"), (65, "not-built")] {
         let mut name = String::new(alloc);
         for _ in 0..letters {
             name.push('n')?;
@@ -264,9 +329,13 @@ fn keeps_the_limits(rt: HostRuntime) -> Result<(), Fail> {
         let event = format!(in alloc; "{{\"name\":\"{name}\"}}")?;
         let cover = format!(in alloc; "{{\"site\":\"{name}\",\"events\":[\"{name}\"]}}")?;
         let text = file(alloc, event.as_str(), "", cover.as_str(), "")?;
-        assert_stop(&rt, alloc, text.as_bytes(), stop, "letters of a name");
+        assert_eq!(rt;
+            told(alloc, text.as_bytes())?.as_str(),
+            answer,
+            "letters of a name"
+        );
     }
-    for (count, stop) in [(256, None), (257, Some(CaseStop::NotBuilt))] {
+    for (count, answer) in [(256, "read"), (257, "not-built")] {
         let events = events(alloc, count)?;
         let mut cover = String::from_str(alloc, r#"{"site":"X","events":["e0""#)?;
         for k in 0..count {
@@ -275,24 +344,28 @@ fn keeps_the_limits(rt: HostRuntime) -> Result<(), Fail> {
         }
         cover.push_str("]}")?;
         let text = file(alloc, events.as_str(), "", cover.as_str(), "")?;
-        assert_stop(&rt, alloc, text.as_bytes(), stop, "events");
+        assert_eq!(rt; told(alloc, text.as_bytes())?.as_str(), answer, "events");
     }
-    for (count, stop) in [(4_096, None), (4_097, Some(CaseStop::NotBuilt))] {
+    for (count, answer) in [(4_096, "read"), (4_097, "not-built")] {
         let relations = repeated(alloc, r#"["response","a","a"]"#, count)?;
         let text = file(alloc, EVENTS, relations.as_str(), COVER, "")?;
-        assert_stop(&rt, alloc, text.as_bytes(), stop, "relations");
+        assert_eq!(rt; told(alloc, text.as_bytes())?.as_str(), answer, "relations");
     }
-    let refused = Some(CaseStop::NotBuilt);
-    for (count, stop) in [(0, refused), (1, None), (16, None), (17, refused)] {
+    for (count, answer) in [
+        (0, "not-built"),
+        (1, "read"),
+        (16, "read"),
+        (17, "not-built"),
+    ] {
         let cover = sites(alloc, count)?;
         let text = file(alloc, r#"{"name":"a"}"#, "", cover.as_str(), "")?;
-        assert_stop(&rt, alloc, text.as_bytes(), stop, "sites");
+        assert_eq!(rt; told(alloc, text.as_bytes())?.as_str(), answer, "sites");
     }
-    for (count, stop) in [(200_000, None), (200_001, Some(CaseStop::NotBuilt))] {
+    for (count, answer) in [(200_000, "read"), (200_001, "not-built")] {
         let calls = repeated(alloc, r#""exec X a""#, count)?;
         let session = format!(in alloc; "[{calls}]")?;
         let text = file(alloc, EVENTS, "", COVER, session.as_str())?;
-        assert_stop(&rt, alloc, text.as_bytes(), stop, "calls");
+        assert_eq!(rt; told(alloc, text.as_bytes())?.as_str(), answer, "calls");
     }
     Ok(())
 }
@@ -300,20 +373,21 @@ fn keeps_the_limits(rt: HostRuntime) -> Result<(), Fail> {
 #[test]
 fn refuses_other_bytes(rt: HostRuntime) -> Result<(), Fail> {
     let alloc = rt.alloc();
-    let not_json = Some(CaseStop::NotJson);
     for text in ["", r#"{"graph":"#, "{} {}", "{'graph':1}"] {
-        assert_stop(&rt, alloc, text.as_bytes(), not_json, text);
+        assert_eq!(rt;
+            told(alloc, text.as_bytes())?.as_str(),
+            "not-json",
+            "{text}"
+        );
     }
-    assert_stop(&rt, alloc, b"\"\xff\"", not_json, "not UTF-8");
+    assert_eq!(rt; told(alloc, b"\"\xff\"")?.as_str(), "not-json", "not UTF-8");
     let longest = spaces(alloc, 16_777_216)?;
-    assert_stop(&rt, alloc, &longest, not_json, "as many bytes as may be");
-    let longer = spaces(alloc, 16_777_217)?;
-    assert_stop(
-        &rt,
-        alloc,
-        &longer,
-        Some(CaseStop::TooLong),
-        "one byte more",
+    assert_eq!(rt;
+        told(alloc, &longest)?.as_str(),
+        "not-json",
+        "as many bytes as may be"
     );
+    let longer = spaces(alloc, 16_777_217)?;
+    assert_eq!(rt; told(alloc, &longer)?.as_str(), "too-long", "one byte more");
     Ok(())
 }

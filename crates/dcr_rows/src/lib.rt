@@ -2,6 +2,14 @@
 #![tactic(auto)]
 
 #[cfg(test)]
+mod causes;
+#[cfg(test)]
+mod effects;
+#[cfg(test)]
 mod first;
 #[cfg(test)]
 mod limits;
+#[cfg(test)]
+mod refusals;
+#[cfg(test)]
+mod small;

@@ -1,3 +1,1 @@
-pub mod RowLemmas
-pub mod ProjectionLemmas
 pub mod SiteLemmas

@@ -16,16 +16,16 @@ use Rattle.dcr_graph.specs.declared.marking.Marking.{Marking}
 use Rattle.dcr_graph.specs.declared.marking.SiteMark.{SiteMark}
 use Rattle.dcr_graph.proofs.BoolLemmas.{and_true, left_out}
 use Rattle.dcr_graph.proofs.LocalLaws.{local_cause, local_step_is, outside_step, same_marks}
-use Rattle.dcr_site.specs.Rows.{guards_of, effects_of}
-use Rattle.dcr_site.specs.Local.{Local, projection_of, cut_to}
+use Rattle.dcr_proj.specs.Rows.{guards_of, effects_of}
+use Rattle.dcr_proj.specs.Local.{Local, projection_of, cut_to}
 use Rattle.dcr_site.specs.Decision.{by_cause, decision, owned_waits}
 use Rattle.dcr_site.specs.Seen.{Seen, StandsAt}
-use Rattle.dcr_site.specs.declared.rows.Guards.{Guards}
-use Rattle.dcr_site.specs.declared.rows.Effects.{Effects}
+use Rattle.dcr_proj.specs.declared.rows.Guards.{Guards}
+use Rattle.dcr_proj.specs.declared.rows.Effects.{Effects}
 use Rattle.dcr_site.specs.declared.site.Decision.TheVariants.{NotHere, Blocked}
 use Rattle.dcr_site.specs.MarksAfter.{marks_after}
-use Rattle.dcr_site.proofs.RowLemmas.{row_at, union-those, union_set-those, difference-those}
-use Rattle.dcr_site.proofs.ProjectionLemmas.{below_room}
+use Rattle.dcr_proj.proofs.RowLemmas.{row_at, union-those, union_set-those, difference-those}
+use Rattle.dcr_proj.proofs.ProjectionLemmas.{below_room}
 
 -- ---- deciding
 

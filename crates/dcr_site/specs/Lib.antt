@@ -1,7 +1,3 @@
-pub mod Rows
-pub mod Alphabet
-pub mod Local
-pub mod ProjectionModel
 pub mod Seen
 pub mod SiteModel
 pub mod Decision

@@ -2,7 +2,7 @@
 use Rattle.std.specs.Prelude.{ℕ, Bool, if◌then◌else◌}
 use Rattle.dcr_set.specs.EventSet.{with_event, without_event, union, difference}
 use Rattle.dcr_graph.specs.declared.marking.SiteMark.{SiteMark}
-use Rattle.dcr_site.specs.declared.rows.Effects.{Effects}
+use Rattle.dcr_proj.specs.declared.rows.Effects.{Effects}
 
 -- the event is executed where that is tracked; it is pending no longer, nor is what it cancels, and then its
 -- responses are; its includes are included, and then its excludes are not

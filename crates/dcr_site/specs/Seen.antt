@@ -5,7 +5,7 @@ use Rattle.dcr_graph.specs.Rules.{Rules}
 use Rattle.dcr_graph.specs.Projection.{project}
 use Rattle.dcr_graph.specs.declared.marking.Marking.{Marking}
 use Rattle.dcr_graph.specs.declared.marking.SiteMark.{SiteMark}
-use Rattle.dcr_site.specs.Local.{Local, projection_of}
+use Rattle.dcr_proj.specs.Local.{Local, projection_of}
 
 pub record Seen : Type 0 where
   pub projection : Local

@@ -1,9 +1,8 @@
 ghost use Rattle.std.specs.Prelude.{◌≡◌, ◌<◌, IsTrue, length};
 ghost use Rattle.dcr_site.specs.MarksAfter.{marks_after};
 
-use crate::projection::Projection;
-use crate::rows::Effects;
 use dcr_graph::{Cause, Marking, SiteMark};
+use dcr_proj::{Effects, Projection};
 use dcr_set::EventId;
 use std::marker::Model;
 
@@ -46,7 +45,7 @@ impl Site {
     ghost use Rattle.dcr_graph.specs.Step.{step};
     ghost use Rattle.dcr_graph.specs.Projection.{HasRoom};
     ghost use Rattle.dcr_graph.specs.declared.marking.Marking.{Marking as Marks};
-    ghost use Rattle.dcr_site.specs.Local.{cut_to, projection_of};
+    ghost use Rattle.dcr_proj.specs.Local.{cut_to, projection_of};
     ghost use Rattle.dcr_site.specs.Seen.{StandsAt};
     ghost use Rattle.dcr_site.specs.Decision.{decision, owned_waits};
 

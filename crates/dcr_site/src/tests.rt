@@ -2,8 +2,9 @@
 ghost use Rattle.std.specs.Prelude.{◌≡◌, ◌<◌, length, IfOk};
 ghost use Rattle.dcr_graph.specs.Projection.{HasRoom};
 
-use crate::{Decision, Site, project};
+use crate::{Decision, Site};
 use dcr_graph::{Cause, Graph, Kind, Label, Marking, Name};
+use dcr_proj::project;
 use dcr_set::{EventId, EventSet};
 use std::alloc::Global;
 use std::test::Fail;

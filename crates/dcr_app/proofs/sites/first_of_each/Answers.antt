@@ -15,7 +15,7 @@ loop-member-preserved c = λ G C M stand.
     let i = c.loop-member.member-index in
     let within : i < length c.args.members.now = omega arith in
     let here : slice_get c.args.members.now i ≡ Some c.member-item.result = slice_get_read c.args.members.now (length c.args.members.now) i c.member-item.result refl within c.member-item.is in
-    let at : StandsAt G (row C i) M c.member.inside.site = subst (StandsAt G (row C i) M) (sym c.member.view_is) (stand.each i c.member-item.result here) in
+    let at : StandsAt G (row C i) M c.member-item.result = stand.each i c.member-item.result here in
     c.lesser-first.ensures ∙ waits_more G C M i c.loop-member.first c.first_waiting.result (let room = stand.as_many in omega arith) (c.loop-member.invariant G C M stand) (c.first_waiting.ensures G (row C i) M at)
 
 pub returns : goal.returns

@@ -1,5 +1,6 @@
-use Rattle.dcr_app.proofs.SitesLemmas.{HeardBefore}
+use Rattle.std.proofs.Common.{take}
+use Rattle.dcr_app.proofs.SitesLemmas.{HeardBy}
 use Rattle.dcr_app.proofs.sites.hear_each.Given as goal
 
-abbrev pub invariant-loop-member : goal.invariant-loop-member
-invariant-loop-member l = HeardBefore l.e l.member-index l.fn.members l.members
+abbrev pub invariant-loop-participant : goal.invariant-loop-participant
+invariant-loop-participant l = HeardBy l.e (take l.participant-index l.participants) l.fn.members l.members

@@ -1,5 +1,5 @@
 use Rattle.std.proofs.Common.{ap, ◌∙◌, length}
-use Rattle.dcr_site.proofs.ProjectionLemmas.{cut_rooms}
+use Rattle.dcr_proj.proofs.ProjectionLemmas.{cut_rooms}
 use Rattle.dcr_site.proofs.SiteLemmas.{stands_open}
 use Rattle.dcr_site.proofs.site.Site.open.Goals as goal
 

@@ -1,0 +1,79 @@
+ghost use Rattle.std.specs.Prelude.{◌≡◌, ◌++◌, codes, decimal, OnOk, IfOk};
+ghost use Rattle.dcr_app.specs.Refusal.{refusal_line};
+
+use dcr_graph::Name;
+use dcr_json::CaseStop;
+use dcr_set::NoMemory;
+use dcr_text::decimal;
+use std::alloc::Global;
+
+/// The line that tells why a case is refused; nothing for want of memory. `NoMemory` where memory could not
+/// be had for the line itself.
+pub(crate) fn line_of(alloc: Global, stop: &CaseStop) -> Result<Vec<u8>, NoMemory>
+    ensures { IfOk result (λ line. line.items ≡ refusal_line stop.now) }
+{
+    match stop {
+        CaseStop::TooLong => text(alloc, b"refused 1 too-long\n"),
+        CaseStop::NotJson => text(alloc, b"refused 2 not-json\n"),
+        CaseStop::NotBuilt => text(alloc, b"refused 0 not-built\n"),
+        CaseStop::Clash { a, b } => clash(alloc, a, b),
+        CaseStop::SiteName { i } => numbered(alloc, b"refused 10 site-name ", *i),
+        CaseStop::Owned { i, j } => numbered_twice(alloc, b"refused 10 owned ", *i, *j),
+        CaseStop::Uncovered { a } => named(alloc, b"refused 11 uncovered ", a),
+        CaseStop::CallLine { k, j } => numbered_twice(alloc, b"refused 12 call-line ", *k, *j),
+        CaseStop::NoMemory => text(alloc, b""),
+    }
+}
+
+// A text.
+fn text(alloc: Global, text: &[u8]) -> Result<Vec<u8>, NoMemory>
+    ensures { IfOk result (λ line. line.items ≡ text.now) }
+{
+    let mut line = Vec::new(alloc);
+    line.extend_from_slice(text)?;
+    Ok(line)
+}
+
+// The names of a pair that is both included and excluded.
+fn clash(alloc: Global, a: &Name, b: &Name) -> Result<Vec<u8>, NoMemory>
+    ensures { IfOk result (λ line. line.items ≡ codes "refused 9 clash " ++ a.now ++ codes " " ++ b.now ++ codes "\n") }
+{
+    let mut line = text(alloc, b"refused 9 clash ")?;
+    line.extend_from_slice(a.text().as_bytes())?;
+    line.extend_from_slice(b" ")?;
+    line.extend_from_slice(b.text().as_bytes())?;
+    line.extend_from_slice(b"\n")?;
+    Ok(line)
+}
+
+// These words and a name.
+fn named(alloc: Global, words: &[u8], name: &Name) -> Result<Vec<u8>, NoMemory>
+    ensures { IfOk result (λ line. line.items ≡ words.now ++ name.now ++ codes "\n") }
+{
+    let mut line = text(alloc, words)?;
+    line.extend_from_slice(name.text().as_bytes())?;
+    line.extend_from_slice(b"\n")?;
+    Ok(line)
+}
+
+// These words and a number.
+fn numbered(alloc: Global, words: &[u8], n: u32) -> Result<Vec<u8>, NoMemory>
+    ensures { IfOk result (λ line. line.items ≡ words.now ++ decimal n ++ codes "\n") }
+{
+    let mut line = text(alloc, words)?;
+    decimal(u64::from(n), &mut line)?;
+    line.extend_from_slice(b"\n")?;
+    Ok(line)
+}
+
+// These words and two numbers.
+fn numbered_twice(alloc: Global, words: &[u8], m: u32, n: u32) -> Result<Vec<u8>, NoMemory>
+    ensures { IfOk result (λ line. line.items ≡ words.now ++ decimal m ++ codes " " ++ decimal n ++ codes "\n") }
+{
+    let mut line = text(alloc, words)?;
+    decimal(u64::from(m), &mut line)?;
+    line.extend_from_slice(b" ")?;
+    decimal(u64::from(n), &mut line)?;
+    line.extend_from_slice(b"\n")?;
+    Ok(line)
+}

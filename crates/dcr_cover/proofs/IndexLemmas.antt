@@ -1,0 +1,60 @@
+-- Names in an index: the place of a name, and a name more.
+use Rattle.std.proofs.Common.{◌≡◌, ℕ, ◌+◌, ◌<◌, inl, inr, Bool, false, cond, List, [], ◌∷◌, ◌++◌, ◌||◌, refl, length, get_or, take, map, Some, None, sym, ap, ◌∙◌, arith}
+use Rattle.std.specs.List.{list_any, position, position_or_len}
+use Rattle.std.specs.Str.{bytes_eq}
+use Rattle.std.proofs.lemmas.Bool.{cases_lt, lt-ltb, le-ltb}
+use Rattle.std.proofs.lemmas.Cmp.{nat_list_eq_equiv}
+use Rattle.std.proofs.lemmas.List.{get_or-map, get_or-take, length-map, length-take, map_push, take_more}
+use Rattle.std.proofs.lemmas.List.Elements.{All-from_get_or}
+use Rattle.std.proofs.lemmas.List.Folds.{list_any_none}
+use Rattle.std.proofs.lemmas.List.Sums.{fails_before_first, passes_at_first}
+use Rattle.dcr_set.specs.Least.{least}
+use Rattle.dcr_set.proofs.LeastLemmas.{least-ext, least-from, least-none_from}
+use Rattle.dcr_graph.specs.Names.{number_of, AreDistinct}
+use Rattle.indexmap.specs.IndexSet.{insert_key}
+
+-- the first place that passes is the least
+position_least : {K : Type 0} (p : K → Bool) (keys : List K) (d : K) → position p keys ≡ least (length keys) (λ k. p (get_or keys k d))
+position_least p keys d = elim (cases_lt (position_or_len p keys) (length keys)) [
+  | inl within ↦
+      ap (λ t. cond t (Some (position_or_len p keys)) None) (lt-ltb (position_or_len p keys) (length keys) within)
+      ∙ sym (least-from (length keys) (λ k. p (get_or keys k d)) (position_or_len p keys) (record {
+        below = within;
+        passes = passes_at_first p keys d within;
+        none_before = λ j l. fails_before_first p keys j d l;
+      }))
+  | inr past ↦
+      ap (λ t. cond t (Some (position_or_len p keys)) None) (le-ltb (position_or_len p keys) (length keys) past)
+      ∙ sym (least-none_from (length keys) (λ k. p (get_or keys k d)) (λ j l. fails_before_first p keys j d (omega arith)))
+]
+
+-- the place of a text among the keys is the number that it has among the names
+pub place_is : {K : Type 0} (see : K → List ℕ) (keys : List K) (text : List ℕ) → position (λ k. bytes_eq text (see k)) keys ≡ number_of (map see keys) text
+place_is see [] text = sym (least-none_from 0 (λ k. bytes_eq (get_or {A = List ℕ} [] k []) text) (λ j l. absurd (omega arith)))
+place_is see (x ∷ xs) text =
+    position_least (λ k. bytes_eq text (see k)) (x ∷ xs) x
+    ∙ least-ext (length (x ∷ xs)) (λ k. bytes_eq text (see (get_or (x ∷ xs) k x))) (λ k. bytes_eq (get_or (map see (x ∷ xs)) k []) text) (λ k below.
+    ap (bytes_eq text) (sym (get_or-map see (x ∷ xs) k x [] below)) ∙ nat_list_eq_equiv.symm text (get_or (map see (x ∷ xs)) k []))
+    ∙ ap (λ n. least n (λ k. bytes_eq (get_or (map see (x ∷ xs)) k []) text)) (sym (length-map (x ∷ xs) see))
+
+-- a test of the keys that a test of the names tells
+list_any-seen : {K : Type 0} (see : K → List ℕ) (p : K → Bool) (q : List ℕ → Bool) (keys : List K) → ((x : K) → p x ≡ q (see x)) → list_any p keys ≡ list_any q (map see keys)
+list_any-seen see p q [] same = refl
+list_any-seen see p q (x ∷ xs) same = ap (λ t. t || list_any p xs) (same x) ∙ ap (λ t. q (see x) || t) (list_any-seen see p q xs same)
+
+-- a name of distinct names is none of those before it
+new_name : (names : List (List ℕ)) (i : ℕ) → AreDistinct names → i < length names → list_any (bytes_eq (get_or names i [])) (take i names) ≡ false
+new_name names i distinct within =
+    list_any_none (bytes_eq (get_or names i [])) (take i names) (All-from_get_or (λ name. bytes_eq (get_or names i []) name ≡ false) (take i names) [] (λ j below.
+    let before : j < i = omega (arith, length-take i names) in
+    ap (bytes_eq (get_or names i [])) (get_or-take i names j [] before) ∙ nat_list_eq_equiv.symm (get_or names i []) (get_or names j []) ∙ distinct j i before within))
+
+-- one name more
+pub names_more : {K : Type 0} (see : K → List ℕ) (eq : K → K → Bool) (keys more : List K) (key : K) (names : List (List ℕ)) (i : ℕ) → ((x y : K) → eq x y ≡ bytes_eq (see x) (see y))
+    → AreDistinct names → i < length names → map see keys ≡ take i names → see key ≡ get_or names i [] → more ≡ insert_key eq keys key → map see more ≡ take (i + 1) names
+names_more see eq keys more key names i same distinct within before here inserted =
+    let absent : list_any (eq key) keys ≡ false =
+    list_any-seen see (eq key) (bytes_eq (see key)) keys (same key) ∙ ap (list_any (bytes_eq (see key))) before
+    ∙ ap (λ n. list_any (bytes_eq n) (take i names)) here ∙ new_name names i distinct within in
+    ap (map see) inserted ∙ ap (λ t. map see (cond t keys (keys ++ key ∷ []))) absent ∙ map_push see keys key
+    ∙ ap (λ ns. ns ++ see key ∷ []) before ∙ ap (λ n. take i names ++ n ∷ []) here ∙ sym (take_more names i [] within)

@@ -1,0 +1,4 @@
+pub mod IndexLemmas
+pub mod SetsLemmas
+pub mod CheckLemmas
+pub mod RefusalLemmas

@@ -1,0 +1,4 @@
+pub mod Told
+pub mod Steps
+pub mod IndexModel
+pub mod Refusals

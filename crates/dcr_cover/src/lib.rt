@@ -1,0 +1,15 @@
+//! What a file writes about who owns which events: the cover that it means, or why it means none.
+#![tactic(auto)]
+
+mod cover;
+mod index;
+mod laws;
+mod meaning;
+mod sites;
+#[cfg(test)]
+mod tests;
+mod text;
+
+pub use cover::check;
+pub use laws::refusals_of_covers;
+pub use text::{CoverStop, SiteText};

@@ -1,0 +1,108 @@
+ghost use Rattle.std.specs.Prelude.{◌≡◌, ◌≢◌, ◌<◌, ◌≤◌, ◌^◌, true, false, None, Some, length, map, All, IfOk, IfErr, OnOk, MatchResult, string_bytes, vec_len};
+ghost use Rattle.std.specs.Str.{bytes_eq};
+ghost use Rattle.dcr_set.specs.Least.{some_below};
+ghost use Rattle.dcr_cover.specs.Told.{first_stop, first_unknown, has_bad_name, owners_told, set_of, site_at, site_stop};
+ghost use Rattle.dcr_cover.specs.Steps.{written};
+ghost use Rattle.dcr_cover.specs.declared.text.CoverStop.TheVariants.{NoMemory, SiteName};
+
+use crate::index::Index;
+use crate::meaning::meaning;
+use crate::{CoverStop, SiteText};
+use dcr_graph::{Name, NameStop};
+use dcr_set::EventSet;
+use std::alloc::Global;
+
+/// The names of the sites and what they own, or what is wrong with the first site with which something is.
+pub(crate) fn read_sites(
+    alloc: Global,
+    index: &Index<'_>,
+    sites: &[SiteText],
+) -> Result<(Vec<Name>, Vec<EventSet>), CoverStop>
+    requires most { length sites.now ≤ 64 }
+    requires texts { All (λ site. vec_len site.owned < 2 ^ 32) sites.now }
+    ensures names { IfOk result (λ read. read.0.items ≡ (owners_told index.now (map written sites.now)).names) }
+    ensures owned { IfOk result (λ read. read.1.items ≡ (owners_told index.now (map written sites.now)).owned) }
+    ensures good { OnOk result (first_stop index.now (map written sites.now) ≡ None) }
+    ensures stop { IfErr result (λ stop. stop ≢ NoMemory → first_stop index.now (map written sites.now) ≡ Some stop) }
+{
+    let mut names = Vec::new(alloc);
+    let mut owned = Vec::new(alloc);
+    for i in 0..sites.len() {
+        let (name, set) = read_site(alloc, index, sites, i)?;
+        names.push(name)?;
+        owned.push(set)?;
+    }
+    Ok((names, owned))
+}
+
+// The name of a site and what it owns.
+#[tactic(auto, unfolding(crate::specs::Told::site_stop))]
+fn read_site(
+    alloc: Global,
+    index: &Index<'_>,
+    sites: &[SiteText],
+    i: usize,
+) -> Result<(Name, EventSet), CoverStop>
+    requires most { length sites.now ≤ 64 }
+    requires texts { All (λ site. vec_len site.owned < 2 ^ 32) sites.now }
+    requires within { i < length sites.now }
+    ensures name { IfOk result (λ site. site.0 ≡ (site_at (map written sites.now) i).0) }
+    ensures owned { IfOk result (λ site. site.1 ≡ set_of index.now (site_at (map written sites.now) i).1) }
+    ensures good { OnOk result (site_stop index.now (map written sites.now) i ≡ None) }
+    ensures stop { IfErr result (λ stop. stop ≢ NoMemory → site_stop index.now (map written sites.now) i ≡ Some stop) }
+{
+    let name = read_name(alloc, sites, i)?;
+    match read_owned(index, &sites[i].owned) {
+        Ok(set) => Ok((name, set)),
+        Err(j) => Err(CoverStop::Owned { i: i as u32, j }),
+    }
+}
+
+// The name of a site, which is a name and no earlier site's.
+fn read_name(alloc: Global, sites: &[SiteText], i: usize) -> Result<Name, CoverStop>
+    requires most { length sites.now ≤ 64 }
+    requires within { i < length sites.now }
+    ensures name { IfOk result (λ name. name ≡ (site_at (map written sites.now) i).0) }
+    ensures good { OnOk result (has_bad_name (map written sites.now) i ≡ false) }
+    ensures bad { IfErr result (λ stop. stop ≢ NoMemory → (stop ≡ SiteName i) × (has_bad_name (map written sites.now) i ≡ true)) }
+{
+    let text = sites[i].name.as_str();
+    if is_named_before(sites, i, text) {
+        return Err(CoverStop::SiteName { i: i as u32 });
+    }
+    match Name::read(alloc, text) {
+        Ok(name) => Ok(name),
+        Err(NameStop::NotName) => Err(CoverStop::SiteName { i: i as u32 }),
+        Err(NameStop::NoMemory) => Err(CoverStop::NoMemory),
+    }
+}
+
+// Whether a site before place i has this name.
+fn is_named_before(sites: &[SiteText], i: usize, name: &str) -> bool
+    requires { i < length sites.now }
+    ensures { result ≡ some_below i (λ k. bytes_eq (site_at (map written sites.now) k).0 name.now) }
+{
+    for k in 0..i {
+        if sites[k].name.as_str() == name {
+            return true;
+        }
+    }
+    false
+}
+
+// What the texts mean together, or the place of the first that means nothing.
+fn read_owned(index: &Index<'_>, texts: &[String]) -> Result<EventSet, u32>
+    requires { length texts.now < 2 ^ 32 }
+    ensures set { IfOk result (λ set. set ≡ set_of index.now (map string_bytes texts.now)) }
+    ensures known { OnOk result (first_unknown index.now (map string_bytes texts.now) ≡ None) }
+    ensures unknown { IfErr result (λ j. first_unknown index.now (map string_bytes texts.now) ≡ Some j) }
+{
+    let mut set = EventSet::new(index.atoms());
+    for j in 0..texts.len() {
+        match meaning(index, texts[j].as_str()) {
+            Some(events) => set.union_with(&events),
+            None => return Err(j as u32),
+        }
+    }
+    Ok(set)
+}

@@ -1,0 +1,4 @@
+pub mod CoverLemmas
+pub mod NetworkLemmas
+pub mod RowLemmas
+pub mod ProjectionLemmas

@@ -1,0 +1,14 @@
+//! Covers by sites, the projection of a graph to what one site needs, and which sites take part in an event.
+#![tactic(auto)]
+
+mod cover;
+mod network;
+mod projection;
+mod rows;
+#[cfg(test)]
+mod tests;
+
+pub use cover::Cover;
+pub use network::{Network, participants_are_those_who_hear};
+pub use projection::{Projection, project};
+pub use rows::{Effects, Guards};

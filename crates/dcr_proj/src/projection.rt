@@ -1,0 +1,219 @@
+ghost use Rattle.std.specs.Prelude.{◌≡◌, length, IfOk};
+ghost use Rattle.dcr_set.specs.EventSet.{those, union};
+ghost use Rattle.dcr_graph.specs.GraphValue.{rules_of};
+ghost use Rattle.dcr_proj.specs.Local.{projection_of};
+ghost use Rattle.dcr_proj.specs.Alphabet.{alphabet_within};
+
+use crate::rows::{Effects, Guards, sources_into};
+use dcr_graph::{Graph, Kind, Marking, SiteMark};
+use dcr_set::{EventId, EventSet, NoMemory};
+use std::alloc::Global;
+use std::marker::Model;
+
+/// What one site keeps of a graph: its own events, the events whose marks it tracks, its alphabet, and of
+/// the relations those alone that its decisions and its marks need. It is kept as masks: two for each
+/// owned event, four for each event of the alphabet. Contracts see it as `Local`.
+#[derive(Drop)]
+pub struct Projection {
+    own: EventSet,
+    tracked_in: EventSet,
+    tracked_ex: EventSet,
+    tracked_re: EventSet,
+    alphabet: EventSet,
+    guards: Vec<Option<Box<Guards>>>,
+    effects: Vec<Option<Box<Effects>>>,
+}
+
+impl Model for Projection {
+    ghost use Rattle.dcr_proj.specs.Local.{Local};
+
+    ghost Value = { Local };
+
+    ghost use Rattle.dcr_proj.specs.ProjectionModel.{local_of, FitsAtoms};
+
+    ghost view = { local_of };
+
+    ghost invariant = { FitsAtoms };
+}
+
+impl Projection {
+    ghost use Rattle.std.specs.Prelude.{◌≡◌, ◌<◌, ◌≤◌, List, Bool, true, false, length, IfOk, Some, slice_index_or, None};
+    ghost use Rattle.dcr_set.specs.EventSet.{has};
+    ghost use Rattle.dcr_graph.specs.Rules.{Rules};
+    ghost use Rattle.dcr_graph.specs.Projection.{HasRoom, local_rules};
+    ghost use Rattle.dcr_proj.specs.Rows.{is_guard};
+    ghost use Rattle.dcr_proj.specs.Local.{cut_to};
+    ghost use Rattle.dcr_proj.specs.ProjectionModel.{IsLocal};
+
+    /// The owned events.
+    pub fn own(&self) -> &EventSet
+        ensures own { result.now ≡ self.now.own }
+        ensures rooms { IsLocal self.now }
+    {
+        &self.own
+    }
+
+    /// The events whose included mark is tracked.
+    pub fn tracked_in(&self) -> &EventSet
+        ensures { result.now ≡ self.now.tracked_in }
+    {
+        &self.tracked_in
+    }
+
+    /// The events whose executed mark is tracked.
+    pub fn tracked_ex(&self) -> &EventSet
+        ensures tracked { result.now ≡ self.now.tracked_ex }
+        ensures room { length result.now ≡ length self.now.own }
+        ensures rooms { IsLocal self.now }
+    {
+        &self.tracked_ex
+    }
+
+    /// The events whose pending mark is tracked.
+    pub fn tracked_re(&self) -> &EventSet
+        ensures { result.now ≡ self.now.tracked_re }
+    {
+        &self.tracked_re
+    }
+
+    /// The events whose execution the site must hear of.
+    pub fn alphabet(&self) -> &EventSet
+        ensures alphabet { result.now ≡ self.now.alphabet }
+        ensures room { length result.now ≡ length self.now.own }
+    {
+        &self.alphabet
+    }
+
+    /// What guards an owned event.
+    pub fn guards(&self, e: EventId) -> &Guards
+        requires { has self.now.own e ≡ true }
+        ensures row { slice_index_or self.now.guards e None ≡ Some result.now }
+        ensures condition { length result.now.condition ≡ length self.now.own }
+        ensures milestone { length result.now.milestone ≡ length self.now.own }
+    {
+        match &self.guards[usize::from(e.0)] {
+            Some(row) => row,
+            None => unreachable!(),
+        }
+    }
+
+    /// What an event of the alphabet does to the marks that are tracked.
+    pub fn effects(&self, e: EventId) -> &Effects
+        requires { has self.now.alphabet e ≡ true }
+        ensures row { slice_index_or self.now.effects e None ≡ Some result.now }
+        ensures response { length result.now.response ≡ length self.now.own }
+        ensures include { length result.now.include ≡ length self.now.own }
+        ensures exclude { length result.now.exclude ≡ length self.now.own }
+        ensures cancel { length result.now.cancel ≡ length self.now.own }
+    {
+        match &self.effects[usize::from(e.0)] {
+            Some(row) => row,
+            None => unreachable!(),
+        }
+    }
+
+    /// The atoms that are related by the kind, condition or milestone, to an owned event.
+    pub fn sources(&self, kind: Kind, e: EventId) -> &EventSet
+        requires kind { is_guard kind ≡ true }
+        requires owned { has self.now.own e ≡ true }
+        ensures sources { (G : Rules) (S : List Bool) → self.now ≡ projection_of G S
+            → result.now ≡ those G.atoms (λ a. (local_rules G S).related kind a e) }
+        ensures room { length result.now ≡ length self.now.own }
+    {
+        let guards = self.guards(e);
+        match kind {
+            Kind::Condition => &guards.condition,
+            Kind::Milestone => &guards.milestone,
+            _ => unreachable!(),
+        }
+    }
+
+    /// The atoms that an event of the alphabet is related to by the kind, response, include, exclude or
+    /// cancel: those alone whose mark of that sort is tracked.
+    pub fn targets(&self, kind: Kind, e: EventId) -> &EventSet
+        requires kind { is_guard kind ≡ false }
+        requires heard { has self.now.alphabet e ≡ true }
+        ensures targets { (G : Rules) (S : List Bool) → self.now ≡ projection_of G S
+            → result.now ≡ those G.atoms (λ b. (local_rules G S).related kind e b) }
+        ensures room { length result.now ≡ length self.now.own }
+    {
+        let effects = self.effects(e);
+        match kind {
+            Kind::Response => &effects.response,
+            Kind::Include => &effects.include,
+            Kind::Exclude => &effects.exclude,
+            Kind::Cancel => &effects.cancel,
+            _ => unreachable!(),
+        }
+    }
+
+    /// The marks of a marking that are tracked.
+    pub fn start(&self, marking: &Marking) -> SiteMark
+        requires { HasRoom (length self.now.own) marking.now }
+        ensures cut { result ≡ cut_to self.now marking.now }
+        ensures rooms { IsLocal self.now }
+    {
+        let mut mark = SiteMark {
+            executed: marking.executed.copy(),
+            pending: marking.pending.copy(),
+            included: marking.included.copy(),
+        };
+        mark.executed.keep_with(&self.tracked_ex);
+        mark.pending.keep_with(&self.tracked_re);
+        mark.included.keep_with(&self.tracked_in);
+        mark
+    }
+}
+
+/// The projection of a graph to an owned set, whose room is the number of the graph's atoms.
+pub fn project(alloc: Global, graph: &Graph, own: &EventSet) -> Result<Projection, NoMemory>
+    requires { length own.now ≡ length graph.now.names }
+    ensures { IfOk result (λ projection. projection ≡ projection_of (rules_of graph.now) own.now) }
+{
+    let conditions = sources_into(graph, Kind::Condition, own);
+    let milestones = sources_into(graph, Kind::Milestone, own);
+    let tracked_ex = joined(own, &conditions);
+    let tracked_re = joined(own, &milestones);
+    let tracked_in = joined(own, &joined(&conditions, &milestones));
+    let alphabet = alphabet_of(graph, &tracked_in, &tracked_re);
+    let guards = Guards::of_each(alloc, graph, own)?;
+    let effects = Effects::of_each(alloc, graph, &tracked_in, &tracked_re, &alphabet)?;
+    Ok(Projection {
+        own: own.copy(),
+        tracked_in,
+        tracked_ex,
+        tracked_re,
+        alphabet,
+        guards,
+        effects,
+    })
+}
+
+// What is tracked, and what may change a mark that is tracked.
+fn alphabet_of(graph: &Graph, tracked_in: &EventSet, tracked_re: &EventSet) -> EventSet
+    requires tracked_in { length tracked_in.now ≡ length graph.now.names }
+    requires tracked_re { length tracked_re.now ≡ length graph.now.names }
+    ensures alphabet { result ≡ those (length graph.now.names) (alphabet_within (rules_of graph.now) tracked_in.now tracked_re.now) }
+    ensures room { length result ≡ length graph.now.names }
+{
+    let pending = joined(
+        &sources_into(graph, Kind::Response, tracked_re),
+        &sources_into(graph, Kind::Cancel, tracked_re),
+    );
+    let included = joined(
+        &sources_into(graph, Kind::Include, tracked_in),
+        &sources_into(graph, Kind::Exclude, tracked_in),
+    );
+    joined(tracked_in, &joined(&pending, &included))
+}
+
+// The events of both sets.
+fn joined(one: &EventSet, other: &EventSet) -> EventSet
+    requires { length one.now ≡ length other.now }
+    ensures union { result ≡ union one.now other.now }
+    ensures room { length result ≡ length one.now }
+{
+    let mut all = one.copy();
+    all.union_with(other);
+    all
+}

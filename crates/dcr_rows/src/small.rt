@@ -1,0 +1,41 @@
+// Small graphs as tables of tests.
+use crate::first::answer;
+use dcr_app::Status;
+use std::alloc::{AllocError, Global};
+use std::test::Fail;
+
+// A case in its parts, each the elements of an array, and its report after the first line.
+pub(crate) struct Row {
+    pub(crate) name: &'static str,
+    pub(crate) events: &'static str,
+    pub(crate) relations: &'static str,
+    pub(crate) cover: &'static str,
+    pub(crate) calls: &'static str,
+    pub(crate) report: &'static str,
+}
+
+// The case file of a row.
+fn file(alloc: Global, row: &Row) -> Result<String, AllocError> {
+    let (events, relations, cover, calls) = (row.events, row.relations, row.cover, row.calls);
+    format!(in alloc;
+        "{{\"graph\":{{\"events\":[{events}],\"relations\":[{relations}]}},\"cover\":[{cover}],\"sessions\":[[{calls}]]}}"
+    )
+}
+
+// The name of the first row that doesn't give its report; empty where each does.
+pub(crate) fn first_wrong(rt: &HostRuntime, rows: &[Row]) -> Result<String, Fail> {
+    for row in rows {
+        if !gives_its_report(rt, row)? {
+            return Ok(String::from_str(rt.alloc(), row.name)?);
+        }
+    }
+    Ok(String::new(rt.alloc()))
+}
+
+fn gives_its_report(rt: &HostRuntime, row: &Row) -> Result<bool, Fail> {
+    let file = file(rt.alloc(), row)?;
+    let (status, written) = answer(rt, &["run"], file.as_bytes())?;
+    let report = row.report;
+    let want = format!(in rt.alloc(); "dcr 1\n{report}")?;
+    Ok(status == Status::Done && written.as_slice() == want.as_bytes())
+}
