@@ -34,7 +34,7 @@ pub up_to_none : {K : Type 0} (rank : K → ℕ) (Holds : K → Type 0) → UpTo
 up_to_none rank Holds other l = absurd (omega arith)
 
 module _ {K I E : Type 0} (rank : K → ℕ) (stop : K → I → E) (Holds : K → Type 0) (Fails : K → I → Type 0) (order : IsOrder rank stop Holds Fails) where
-  up_to_next : (k : K) → UpTo rank Holds (rank k) → Holds k → UpTo rank Holds (rank k + 1)
+  pub up_to_next : (k : K) → UpTo rank Holds (rank k) → Holds k → UpTo rank Holds (rank k + 1)
   up_to_next k before here other l = elim (cases_lt (rank other) (rank k)) [
     | inl less ↦ before other less
     | inr not_less ↦ let same : rank k ≡ rank other = omega arith in subst Holds (order.same_kind k other same) here

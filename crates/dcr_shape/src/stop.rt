@@ -1,7 +1,6 @@
 ghost use Rattle.std.specs.Prelude.{◌≡◌};
 ghost use Rattle.dcr_shape.specs.declared.stop.ReadStop.TheVariants.{NoMemory};
 
-use dcr_set::EventId;
 use std::alloc::{AllocError, AllocFailed};
 
 /// A part of a case file, in the order in which their shapes are tried.
@@ -44,13 +43,9 @@ pub enum LimitKind {
     Calls,
 }
 
-/// Why the reading of a case stops, in the order in which this is tried. Events and sites are numbers here.
+/// Why the reading of what a case file writes stops, in the order in which this is tried.
 #[derive(Clone, Copy, Debug, PartialEq, Eq)]
 pub enum ReadStop {
-    /// There are more bytes than a case may have.
-    TooLong,
-    /// The bytes are no JSON text.
-    NotJson,
     /// This part is not of its shape; of several of its kind, the first.
     Shape { part: Part, index: u32 },
     /// There are so many of this kind, which is outside the limit.
@@ -63,16 +58,6 @@ pub enum ReadStop {
     MarkOnNest { i: u32 },
     /// An end of relation `i` is no event's name.
     RelationEnd { i: u32 },
-    /// The pair of these atoms is in both include and exclude.
-    Clash { a: EventId, b: EventId },
-    /// The name of site `i` is no name, or an earlier site's.
-    SiteName { i: u32 },
-    /// Owned text `j` of site `i` is no event's name.
-    Owned { i: u32, j: u32 },
-    /// No site owns this atom.
-    Uncovered { a: EventId },
-    /// Call `j` of session `k` is no call.
-    CallLine { k: u32, j: u32 },
     /// Memory was wanted and could not be had. It may come in the place of any other answer.
     NoMemory,
 }
