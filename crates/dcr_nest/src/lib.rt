@@ -12,3 +12,4 @@ mod tree;
 pub use laws::nodes_are_below_as_parents_lead;
 pub use nested::Nested;
 pub use node::{Node, Version};
+pub use tree::{atoms_of, parent_marks};

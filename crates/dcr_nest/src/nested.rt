@@ -1,6 +1,6 @@
 use crate::tree::{self, Tree};
 use crate::{Node, Version, flatten};
-use dcr_graph::{Graph, GraphStop, Kind};
+use dcr_graph::{Graph, GraphStop, Kind, Name};
 use dcr_set::{EventId, EventSet, NoMemory};
 use std::alloc::Global;
 use std::marker::Model;
@@ -34,7 +34,7 @@ impl Nested {
     ghost use Rattle.dcr_graph.specs.Pairs.{AreInRange, first_clash, TellsClash};
     ghost use Rattle.dcr_nest.specs.Tree.{atoms, atom_number, atoms_below};
     ghost use Rattle.dcr_nest.specs.Nest.{nest, names_of, parents_of, IsNested};
-    ghost use Rattle.dcr_nest.specs.FlatRelation.{flat_relation, IsFlattening};
+    ghost use Rattle.dcr_nest.specs.FlatRelation.{flat_relation, of_atoms, IsFlattening};
 
     /// The nested graph of these nodes and relations.
     pub fn new(version: Version, nodes: Vec<Node>, relations: Vec<(Kind, u16, u16)>) -> Nested
@@ -93,6 +93,14 @@ impl Nested {
             return None;
         }
         Some(EventId(tree::atoms_before(&is_parent, node)))
+    }
+
+    /// The names of the atoms, in order, again.
+    pub fn atom_names(&self, alloc: Global) -> Result<Vec<Name>, NoMemory>
+        ensures { IfOk result (λ names. names.items ≡ of_atoms (parents_of self.now.nodes) (names_of self.now.nodes)) }
+    {
+        let tree = Tree::of(alloc, &self.nodes)?;
+        flatten::names(alloc, tree.atoms(), &self.nodes)
     }
 
     /// The atoms at or below a node. The room is the number of atoms.

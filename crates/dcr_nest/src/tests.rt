@@ -9,7 +9,7 @@ ghost use Rattle.dcr_graph.specs.declared.kind.Kind.TheVariants.{Cancel};
 ghost use Rattle.dcr_nest.specs.Nest.{names_of, parents_of};
 ghost use Rattle.dcr_nest.specs.Tree.{AreEarlier};
 
-use crate::{Nested, Node, Version, tree};
+use crate::{Nested, Node, Version, atoms_of, tree};
 use dcr_graph::{Graph, GraphStop, Kind, Label, Name};
 use dcr_set::{EventId, EventSet};
 use std::alloc::Global;
@@ -225,6 +225,11 @@ fn nodes_are_found_and_numbered(rt: HostRuntime) -> Result<(), Fail> {
         assert_eq!(rt; members(&nest.below(rt.alloc(), number)?), below, "{name}");
         assert_eq!(rt; members(&all[usize::from(number)]), below, "{name}");
     }
+    let names = nest.atom_names(rt.alloc())?;
+    assert_eq!(rt; names.len(), 4);
+    for (name, text) in names.iter().zip(["a", "b", "c", "d"]) {
+        assert_eq!(rt; name.text(), text);
+    }
     assert_eq!(rt; nest.find("first"), None);
     assert_eq!(rt; nest.find(""), None);
     Ok(())
@@ -255,6 +260,8 @@ fn relations_reach_what_is_far_below(rt: HostRuntime) -> Result<(), Fail> {
     let nest = nested(Version::V2, nodes, relations)?;
     assert_eq!(rt; nest.version(), Version::V2);
     assert_eq!(rt; nest.relations().len(), 8);
+    let atoms = atoms_of(rt.alloc(), nest.nodes())?;
+    assert_eq!(rt; atoms.as_slice(), [3, 4, 5, 6].as_slice());
     let graph = nest.flatten(rt.alloc())?;
     let both = [true, true, false, false];
     let rows = [

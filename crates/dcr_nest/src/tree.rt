@@ -43,7 +43,7 @@ impl Tree {
         ensures { IfOk result (λ tree. tree ≡ parents_of nodes.now) }
     {
         let parents = parents(alloc, nodes)?;
-        let atoms = unmarked(alloc, &parent_marks(nodes), nodes.len() as u16)?;
+        let atoms = atoms_of(alloc, nodes)?;
         Ok(Tree { parents, atoms })
     }
 
@@ -97,8 +97,8 @@ fn parents(alloc: Global, nodes: &[Node]) -> Result<Vec<Option<u16>>, NoMemory>
     Ok(parents)
 }
 
-/// Which of the nodes is a parent.
-pub(crate) fn parent_marks(nodes: &[Node]) -> [bool; 2048]
+/// Which of the nodes is a parent, by their numbers. A number that is no node has no mark.
+pub fn parent_marks(nodes: &[Node]) -> [bool; 2048]
     requires most { length nodes.now ≤ 2048 }
     requires earlier { AreEarlier (parents_of nodes.now) }
     ensures len { length result ≡ 2048 }
@@ -111,6 +111,16 @@ pub(crate) fn parent_marks(nodes: &[Node]) -> [bool; 2048]
         }
     }
     marks
+}
+
+/// The nodes that are nobody's parent, in order.
+pub fn atoms_of(alloc: Global, nodes: &[Node]) -> Result<Vec<u16>, NoMemory>
+    requires most { length nodes.now ≤ 2048 }
+    requires earlier { AreEarlier (parents_of nodes.now) }
+    ensures { IfOk result (λ found. found.items ≡ atoms (parents_of nodes.now)) }
+{
+    let found = unmarked(alloc, &parent_marks(nodes), nodes.len() as u16)?;
+    Ok(found)
 }
 
 /// How many of the nodes before this one are not marked.

@@ -1,13 +1,10 @@
-use Rattle.std.proofs.Common.{◌≤◌, false, not, length, get_or, ap, sym, subst, ◌∙◌, arith}
+use Rattle.std.proofs.Common.{◌≤◌, length, ap, sym, subst, ◌∙◌, arith}
 use Rattle.std.proofs.lemmas.List.{length-map}
-use Rattle.dcr_nest.specs.Nest.{parents_of}
-use Rattle.dcr_nest.specs.Tree.{Parents, AreEarlier, is_parent, atoms}
+use Rattle.dcr_nest.specs.Tree.{Parents, AreEarlier, atoms}
 use Rattle.dcr_nest.specs.declared.node.Node.{Node}
-use Rattle.dcr_nest.proofs.AtomLemmas.{picked, picked-ext}
 use Rattle.dcr_nest.proofs.tree.Tree.of.Goals as goal
 
 pub invariant_of-result : goal.invariant_of-result
-unfolding atoms
 invariant_of-result c =
     let nodes = c.args.nodes.now in
     let many = length-map nodes (λ (node : Node). node.parent) in
@@ -16,10 +13,6 @@ invariant_of-result c =
     record {
       most = (let long = ap (λ parents. length parents) same in omega arith);
       earlier = subst AreEarlier (sym same) c.requires.earlier;
-      same_atoms =
-          c.in_ok-atoms.ensures
-          ∙ picked-ext (λ x. not (get_or c.parent_marks.result x false)) (λ x. not (is_parent (parents_of nodes) x)) (length nodes) (λ x below.
-          ap not (c.parent_marks.ensures.marks x (omega arith)))
-          ∙ ap (picked (λ x. not (is_parent (parents_of nodes) x))) (sym many) ∙ ap atoms (sym same);
+      same_atoms = c.in_ok-atoms.ensures ∙ ap atoms (sym same);
       most_atoms = subst P (sym same) c.requires.most_atoms;
     }
