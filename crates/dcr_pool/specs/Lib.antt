@@ -1,0 +1,4 @@
+pub mod Filled
+pub mod BlockModel
+pub mod Supply
+pub mod PoolModel

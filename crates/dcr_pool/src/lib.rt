@@ -1,0 +1,10 @@
+//! Blocks of room for entries, whose memory is all taken at one moment.
+#![tactic(auto)]
+
+mod block;
+mod pool;
+#[cfg(test)]
+mod tests;
+
+pub use block::Block;
+pub use pool::Pool;
