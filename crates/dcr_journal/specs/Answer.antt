@@ -1,16 +1,17 @@
 -- What the graph answers to a call at a marking.
-use Rattle.std.specs.Prelude.{ℕ, List, Option, Some, None, if◌then◌else◌}
-use Rattle.dcr_set.specs.EventSet.{Set, has}
+use Rattle.std.specs.Prelude.{ℕ, ◌&&◌, List, Option, Some, None, is_none, if◌then◌else◌}
+use Rattle.dcr_set.specs.EventSet.{Set, has, those}
 use Rattle.dcr_graph.specs.Rules.{Rules}
 use Rattle.dcr_graph.specs.Rows.{row}
-use Rattle.dcr_graph.specs.Cause.{cause}
+use Rattle.dcr_graph.specs.Cause.{cause, waits}
+use Rattle.dcr_graph.specs.Projection.{project}
 use Rattle.dcr_graph.specs.declared.kind.Cause.{Cause}
 use Rattle.dcr_graph.specs.declared.kind.Cause.TheVariants as why
 use Rattle.dcr_graph.specs.declared.marking.Marking.{Marking}
 use Rattle.dcr_journal.specs.declared.call.Call.{Call}
-use Rattle.dcr_journal.specs.declared.call.Call.TheVariants.{Exec}
+use Rattle.dcr_journal.specs.declared.call.Call.TheVariants.{Exec, Look, Enabled, Accepting}
 use Rattle.dcr_journal.specs.declared.call.Outcome.{Outcome}
-use Rattle.dcr_journal.specs.declared.call.Outcome.TheVariants.{Done, NotHere, Excluded, Condition, Milestone}
+use Rattle.dcr_journal.specs.declared.call.Outcome.TheVariants.{Done, NotHere, Excluded, Condition, Milestone, Marks, Can, AllDone, Waits}
 
 -- the outcome that tells the cause; an event without one is executed
 abbrev pub outcome_of : Option Cause → Outcome
@@ -19,7 +20,20 @@ outcome_of (Some why.Excluded) = Excluded
 outcome_of (Some (why.Condition c)) = Condition c
 outcome_of (Some (why.Milestone m)) = Milestone m
 
--- The answer over the rules G and the owned sets C at the marking M: not here where the site doesn't own the
--- event, else the cause that blocks it, else done.
+-- the enabled atoms of an owned set: those that no cause blocks
+abbrev pub enabled_in : Rules → Set → Marking → Set
+enabled_in G S M = those G.atoms (λ a. has S a && is_none (cause G M a))
+
+-- the verdict: the atom that is waited for, or all done where there is none
+abbrev pub verdict_of : Option ℕ → Outcome
+verdict_of None = AllDone
+verdict_of (Some a) = Waits a
+
+-- The answer over the rules G and the owned sets C at the marking M. To an execution: not here where the site
+-- doesn't own the event, else the cause that blocks it, else done. To a look: the site's projection of M. To the
+-- question what is enabled: the enabled atoms that the site owns. To the question whether M is accepting: the verdict.
 abbrev pub answer : Rules → List Set → Marking → Call → Outcome
 answer G C M (Exec i e) = if has (row C i) e then outcome_of (cause G M e) else NotHere
+answer G C M (Look i) = Marks (project G (row C i) M)
+answer G C M (Enabled i) = Can (enabled_in G (row C i) M)
+answer G C M Accepting = verdict_of (waits G.atoms M)

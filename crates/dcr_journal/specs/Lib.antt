@@ -1,3 +1,4 @@
+pub mod Blocks
 pub mod JournalValue
 pub mod JournalModel
 pub mod Answer

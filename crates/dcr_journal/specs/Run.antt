@@ -1,27 +1,28 @@
 -- Runs: the marking after a list of entries, which lists are runs of the graph, and the run that sessions have
 -- when they go one after the other.
-use Rattle.std.specs.Prelude.{◌≡◌, ℕ, ◌+◌, ◌<◌, List, [], ◌∷◌, ◌++◌, ◌==◌, length, map, filter, fold, take, count_by, slice_get, Some, Option}
+use Rattle.std.specs.Prelude.{◌≡◌, ◌⊎◌, ℕ, ◌+◌, ◌<◌, Bool, false, List, [], ◌∷◌, ◌++◌, ◌==◌, length, map, filter, fold, take, count_by, slice_get, Some, None, Option}
+use Rattle.std.specs.Option.{option_map_or}
 use Rattle.dcr_set.specs.EventSet.{Set}
 use Rattle.dcr_graph.specs.Rules.{Rules}
 use Rattle.dcr_graph.specs.Step.{step}
-use Rattle.dcr_graph.specs.Cause.{waits}
 use Rattle.dcr_graph.specs.Projection.{project}
 use Rattle.dcr_graph.specs.declared.marking.Marking.{Marking}
 use Rattle.dcr_graph.specs.declared.marking.SiteMark.{SiteMark}
 use Rattle.dcr_journal.specs.Answer.{answer}
 use Rattle.dcr_journal.specs.declared.call.Call.{Call}
-use Rattle.dcr_journal.specs.declared.call.Call.TheVariants.{Exec}
+use Rattle.dcr_journal.specs.declared.call.Call.TheVariants.{Exec, Look, Enabled, Accepting}
 use Rattle.dcr_journal.specs.declared.call.Outcome.{Outcome}
-use Rattle.dcr_journal.specs.declared.call.Outcome.TheVariants.{Done, NotHere, Excluded, Condition, Milestone}
+use Rattle.dcr_journal.specs.declared.call.Outcome.TheVariants.{Done, Faulted}
 use Rattle.dcr_journal.specs.declared.call.Entry.{Entry}
+
+-- the event, where the call with this outcome is an execution that was done
+abbrev pub event_done : Call → Outcome → Option ℕ
+event_done (Exec i e) Done = Some e
+event_done call outcome = None
 
 -- the marking after a call with its outcome: an execution that was done steps it, nothing else does
 abbrev pub stepped_by : Rules → Marking → Call → Outcome → Marking
-stepped_by G M (Exec i e) Done = step G M e
-stepped_by G M (Exec i e) NotHere = M
-stepped_by G M (Exec i e) Excluded = M
-stepped_by G M (Exec i e) (Condition c) = M
-stepped_by G M (Exec i e) (Milestone m) = M
+stepped_by G M call outcome = option_map_or (step G M) (event_done call outcome) M
 
 -- the marking after the entries J, from M
 abbrev pub after : Rules → Marking → List Entry → Marking
@@ -35,16 +36,29 @@ made_by session J = count_by (λ (entry : Entry). entry.session == session) J
 abbrev pub calls_of : ℕ → List Entry → List Call
 calls_of session J = map (λ (entry : Entry). entry.call) (filter (λ (entry : Entry). entry.session == session) J)
 
+-- how many executions that were done are of an event of the alphabet
+abbrev pub touches : (ℕ → Bool) → List Entry → ℕ
+touches alphabet J = count_by (λ (entry : Entry). option_map_or alphabet (event_done entry.call entry.outcome) false) J
+
 -- the site and the event of a call are a site and an atom
 abbrev pub IsInRange : ℕ → ℕ → Call → Type 0
 IsInRange sites atoms (Exec i e) = (i < sites) × (e < atoms)
+IsInRange sites atoms (Look i) = i < sites
+IsInRange sites atoms (Enabled i) = i < sites
+IsInRange sites atoms Accepting = Unit {0}
+
+-- an execution that could have been done, and failed: the run ends with it
+pub record IsLastFault (G : Rules) (C : List Set) (M : Marking) (J : List Entry) (place : ℕ) (entry : Entry) : Type 0 where
+  pub outcome : entry.outcome ≡ Faulted
+  pub possible : answer G C (after G M (take place J)) entry.call ≡ Done
+  pub last : place + 1 ≡ length J
 
 -- the entry at a place: its numbers are in range, its seq counts its session's entries before it, and its outcome
--- is the answer after the entries before it
+-- is the answer after the entries before it, or it is the last and a fault
 pub record IsLegalAt (G : Rules) (C : List Set) (M : Marking) (J : List Entry) (place : ℕ) (entry : Entry) : Type 0 where
   pub in_range : IsInRange (length C) G.atoms entry.call
   pub seq : entry.seq ≡ made_by entry.session (take place J)
-  pub outcome : entry.outcome ≡ answer G C (after G M (take place J)) entry.call
+  pub outcome : (entry.outcome ≡ answer G C (after G M (take place J)) entry.call) ⊎ IsLastFault G C M J place entry
 
 -- J is a run of the graph from M
 abbrev pub IsLegal : Rules → List Set → Marking → List Entry → Type 0

@@ -1,7 +1,8 @@
-ghost use Rattle.std.specs.Prelude.{◌≡◌, ◌+◌, ◌-◌, ◌<◌, ◌≤◌, [], ◌∷◌, ◌++◌, length, ◌↔◌, IsTrue, IfOk, slice_get};
-ghost use Rattle.std.specs.Option.{option_copied};
+ghost use Rattle.std.specs.Prelude.{◌≡◌, ◌+◌, ◌-◌, ◌<◌, ◌≤◌, [], ◌∷◌, ◌++◌, length, ◌↔◌, IsTrue, IfOk, option_map, slice_get};
 
 use crate::Entry;
+use crate::blocks::{PER_BLOCK, append};
+use dcr_pool::{Block, Pool};
 use dcr_set::NoMemory;
 use std::alloc::Global;
 use std::marker::Model;
@@ -10,7 +11,11 @@ use std::marker::Model;
 /// memory is taken when it is opened. Contracts see the list of entries and the capacity.
 #[derive(Drop)]
 pub struct Journal {
-    entries: Vec<Entry>,
+    // The blocks that have entries, in order: each but the last is full.
+    blocks: Vec<Block<Entry>>,
+    // The blocks that have none yet.
+    pool: Pool<Entry>,
+    len: u32,
     capacity: u32,
 }
 
@@ -33,8 +38,15 @@ impl Journal {
         ensures empty { IfOk result (λ journal. journal.entries ≡ []) }
         ensures capacity { IfOk result (λ journal. journal.capacity ≡ capacity) }
     {
-        let entries = Vec::with_capacity(alloc, capacity as usize)?;
-        Ok(Journal { entries, capacity })
+        let count = capacity.div_ceil(PER_BLOCK);
+        let pool = Pool::open(alloc, count, PER_BLOCK)?;
+        let blocks = Vec::with_capacity(alloc, count as usize)?;
+        Ok(Journal {
+            blocks,
+            pool,
+            len: 0,
+            capacity,
+        })
     }
 
     /// Adds an entry at the end. Takes no memory.
@@ -43,26 +55,15 @@ impl Journal {
         ensures entries { self.new.entries ≡ self.old.entries ++ entry ∷ [] }
         ensures capacity { self.new.capacity ≡ self.old.capacity }
     {
-        // Taken apart and put together: the checker wants to see the types of the parts.
-        let Entry {
-            session,
-            seq,
-            call,
-            outcome,
-        } = entry;
-        self.entries.push_reserved(Entry {
-            session,
-            seq,
-            call,
-            outcome,
-        });
+        append(&mut self.blocks, &mut self.pool, self.len, entry);
+        self.len += 1;
     }
 
     /// For how many more entries there is room.
     pub fn spare(&self) -> u32
         ensures spare { result + length self.now.entries ≡ self.now.capacity }
     {
-        self.capacity - self.len()
+        self.capacity - self.len
     }
 
     /// How many entries there are.
@@ -70,27 +71,28 @@ impl Journal {
         ensures len { result ≡ length self.now.entries }
         ensures room { length self.now.entries ≤ self.now.capacity }
     {
-        self.entries.len() as u32
+        self.len
     }
 
     /// Whether there is no entry.
     pub fn is_empty(&self) -> bool
         ensures { IsTrue result ↔ (self.now.entries ≡ []) }
     {
-        self.entries.is_empty()
+        self.len == 0
     }
 
     /// The entry at a place, from 0. None exactly where the place is not below the length.
     pub fn get(&self, place: u32) -> Option<&Entry>
-        ensures { option_copied result ≡ slice_get self.now.entries place }
+        ensures { option_map (λ entry. entry.now) result ≡ slice_get self.now.entries place }
     {
-        self.entries.get(place as usize)
+        let block = self.blocks.get((place / PER_BLOCK) as usize)?;
+        block.get((place % PER_BLOCK) as usize)
     }
 
     /// The last entry. None exactly where there is none.
     pub fn last(&self) -> Option<&Entry>
-        ensures { option_copied result ≡ slice_get self.now.entries (length self.now.entries - 1) }
+        ensures { option_map (λ entry. entry.now) result ≡ slice_get self.now.entries (length self.now.entries - 1) }
     {
-        self.entries.last()
+        self.get(self.len.saturating_sub(1))
     }
 }

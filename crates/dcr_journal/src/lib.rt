@@ -1,6 +1,7 @@
 //! Calls, their outcomes, and the journal of a run.
 #![tactic(auto)]
 
+mod blocks;
 mod call;
 mod closed;
 mod journal;

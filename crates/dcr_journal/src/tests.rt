@@ -1,63 +1,128 @@
 // Worked rows: that each call can succeed, and what it answers at known values.
 use crate::{Call, CallList, Closed, Entry, Journal, MarkList, Outcome};
 use dcr_graph::{Marking, SiteMark};
+use dcr_pool::Block;
 use dcr_set::{EventId, EventSet, SiteId};
+use std::mem::size_of;
 use std::test::Fail;
 
-// The entries of a run of two sessions.
+// The set of event 1 among two, or of none.
+fn set(has_event: bool) -> EventSet {
+    let mut events = EventSet::new(2);
+    if has_event {
+        events.insert(EventId(1));
+    }
+    events
+}
+
+// The marks of a site where event 1 is executed.
+fn mark() -> SiteMark {
+    SiteMark {
+        executed: set(true),
+        pending: set(false),
+        included: set(false),
+    }
+}
+
+fn is_mark(found: &SiteMark) -> bool {
+    found.executed.contains(EventId(1))
+        && !found.executed.contains(EventId(0))
+        && found.pending.first().is_none()
+        && found.included.first().is_none()
+}
+
+// The entry that these rows have at a place: each outcome in turn.
 fn told(place: u32) -> Entry {
-    let (session, seq, outcome) = match place {
-        0 => (0, 0, Outcome::Done),
-        1 => (7, 0, Outcome::NotHere),
-        2 => (0, 1, Outcome::Excluded),
-        3 => (0, 2, Outcome::Condition(EventId(3))),
-        _ => (7, 1, Outcome::Milestone(EventId(9))),
+    let outcome = match place % 10 {
+        0 => Outcome::Done,
+        1 => Outcome::NotHere,
+        2 => Outcome::Excluded,
+        3 => Outcome::Condition(EventId(3)),
+        4 => Outcome::Milestone(EventId(9)),
+        5 => Outcome::Marks(mark()),
+        6 => Outcome::Can(set(true)),
+        7 => Outcome::AllDone,
+        8 => Outcome::Waits(EventId(5)),
+        _ => Outcome::Faulted,
     };
     Entry {
-        session,
-        seq,
+        session: place / 3,
+        seq: place % 3,
         call: Call::Exec(SiteId(1), EventId(4)),
         outcome,
     }
 }
 
+fn is_told(found: Option<&Entry>, place: u32) -> bool {
+    let Some(entry) = found else {
+        return false;
+    };
+    let same = match &entry.outcome {
+        Outcome::Done => place % 10 == 0,
+        Outcome::NotHere => place % 10 == 1,
+        Outcome::Excluded => place % 10 == 2,
+        Outcome::Condition(e) => place % 10 == 3 && *e == EventId(3),
+        Outcome::Milestone(e) => place % 10 == 4 && *e == EventId(9),
+        Outcome::Marks(marks) => place % 10 == 5 && is_mark(marks),
+        Outcome::Can(events) => place % 10 == 6 && events.contains(EventId(1)),
+        Outcome::AllDone => place % 10 == 7,
+        Outcome::Waits(e) => place % 10 == 8 && *e == EventId(5),
+        Outcome::Faulted => place % 10 == 9,
+    };
+    same && entry.session == place / 3
+        && entry.seq == place % 3
+        && entry.call == Call::Exec(SiteId(1), EventId(4))
+}
+
 #[test]
 fn a_journal_keeps_its_entries_in_order(rt: HostRuntime) -> Result<(), Fail> {
-    let mut journal = Journal::open(rt.alloc(), 5)?;
-    assert_eq!(rt; journal.len(), 0);
-    assert_eq!(rt; journal.spare(), 5);
-    assert!(rt; journal.is_empty());
-    assert_eq!(rt; journal.get(0), None);
-    assert_eq!(rt; journal.last(), None);
-    for place in 0..5 {
-        assert!(rt; journal.spare() > 0);
-        journal.push(told(place));
-        assert_eq!(rt; journal.last().copied(), Some(told(place)), "at {place}");
+    for capacity in [0, 1, 255, 256, 257, 600] {
+        let mut journal = Journal::open(rt.alloc(), capacity)?;
+        assert!(rt; journal.is_empty(), "of {capacity}");
+        assert!(rt; journal.last().is_none(), "of {capacity}");
+        for place in 0..capacity {
+            assert_eq!(rt; journal.len(), place, "of {capacity}");
+            assert_eq!(rt; journal.spare(), capacity - place, "of {capacity}");
+            assert!(rt; journal.spare() > 0);
+            journal.push(told(place));
+            assert!(rt; is_told(journal.last(), place), "of {capacity} at {place}");
+        }
+        assert_eq!(rt; journal.len(), capacity);
+        assert_eq!(rt; journal.spare(), 0);
+        for place in 0..capacity {
+            assert!(rt;
+                is_told(journal.get(place), place),
+                "of {capacity} at {place}"
+            );
+        }
+        assert!(rt; journal.get(capacity).is_none(), "of {capacity}");
     }
-    assert_eq!(rt; journal.len(), 5);
-    assert_eq!(rt; journal.spare(), 0);
-    assert!(rt; !journal.is_empty());
-    for place in 0..5 {
-        assert_eq!(rt;
-            journal.get(place).copied(),
-            Some(told(place)),
-            "at {place}"
-        );
-    }
-    assert_eq!(rt; journal.get(5), None);
     Ok(())
 }
 
 #[test]
+fn a_full_journal_of_marks_takes_under_100_megabytes(rt: HostRuntime) {
+    let (blocks, per_block) = (782, 256);
+    assert!(rt; blocks * per_block >= 200_000);
+    let entries = blocks * per_block * size_of::<Entry>();
+    // A place for each block in the journal, and one in its pool.
+    let places = 2 * blocks * size_of::<Block<Entry>>();
+    assert!(rt; entries + places < 100_000_000, "{entries} and {places}");
+}
+
+#[test]
 fn a_list_of_calls_is_read(rt: HostRuntime) -> Result<(), Fail> {
-    let first = Call::Exec(SiteId(0), EventId(2));
-    let second = Call::Exec(SiteId(1), EventId(0));
-    let calls = CallList::new(Vec::from_array(rt.alloc(), [first, second])?);
-    assert_eq!(rt; calls.len(), 2);
+    let (exec, look) = (Call::Exec(SiteId(0), EventId(2)), Call::Look(SiteId(1)));
+    let enabled = Call::Enabled(SiteId(0));
+    let made = Vec::from_array(rt.alloc(), [exec, look, enabled, Call::Accepting])?;
+    let calls = CallList::new(made);
+    assert_eq!(rt; calls.len(), 4);
     assert!(rt; !calls.is_empty());
-    assert_eq!(rt; calls.get(0), Some(&first));
-    assert_eq!(rt; calls.get(1), Some(&second));
-    assert_eq!(rt; calls.get(2), None);
+    assert_eq!(rt; calls.get(0), Some(&exec));
+    assert_eq!(rt; calls.get(1), Some(&look));
+    assert_eq!(rt; calls.get(2), Some(&enabled));
+    assert_eq!(rt; calls.get(3), Some(&Call::Accepting));
+    assert_eq!(rt; calls.get(4), None);
     let none = CallList::new(Vec::new(rt.alloc()));
     assert_eq!(rt; none.len(), 0);
     assert!(rt; none.is_empty());
@@ -67,32 +132,21 @@ fn a_list_of_calls_is_read(rt: HostRuntime) -> Result<(), Fail> {
 
 #[test]
 fn a_run_that_ended_is_read(rt: HostRuntime) -> Result<(), Fail> {
-    let mut executed = EventSet::new(2);
-    executed.insert(EventId(1));
-    let mark = SiteMark {
-        executed,
-        pending: EventSet::new(2),
-        included: EventSet::new(2),
-    };
     let closed = Closed {
         opening: Marking {
-            executed: EventSet::new(2),
-            pending: EventSet::new(2),
-            included: EventSet::new(2),
+            executed: set(false),
+            pending: set(false),
+            included: set(true),
         },
         history: Journal::open(rt.alloc(), 0)?,
-        marks: MarkList::new(Vec::from_array(rt.alloc(), [mark])?),
+        marks: MarkList::new(Vec::from_array(rt.alloc(), [mark()])?),
         waits: None,
     };
     assert_eq!(rt; closed.history.spare(), 0);
     assert_eq!(rt; closed.marks.len(), 1);
     assert!(rt; !closed.marks.is_empty());
     match closed.marks.get(0) {
-        Some(found) => {
-            assert!(rt; found.executed.contains(EventId(1)));
-            assert!(rt; !found.executed.contains(EventId(0)));
-            assert!(rt; found.pending.first().is_none());
-        }
+        Some(found) => assert!(rt; is_mark(found)),
         None => assert!(rt; false, "the marks of the first site are lost"),
     }
     assert!(rt; closed.marks.get(1).is_none());
