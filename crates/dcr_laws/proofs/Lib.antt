@@ -1,0 +1,4 @@
+pub mod WaitsLemmas
+pub mod TouchesLemmas
+pub mod SitesRunLemmas
+pub mod ToldLemmas
