@@ -11,8 +11,12 @@ use Rattle.dcr_set.specs.EventSet.{Set}
 use Rattle.dcr_set.proofs.LeastLemmas.{least-some, least-none, least-from, least-none_from}
 use Rattle.dcr_set.proofs.SetLemmas.{length-those}
 use Rattle.dcr_graph.specs.Names.{AreDistinct}
+use Rattle.dcr_graph.specs.GraphValue.{Flat}
+use Rattle.dcr_nest.specs.Nest.{Nest, names_of, parents_of}
+use Rattle.dcr_nest.specs.Tree.{atoms}
+use Rattle.dcr_nest.specs.FlatRelation.{IsFlattening}
 use Rattle.dcr_proj.specs.CoverValue.{owners, atoms_of, is_owned, IsCover}
-use Rattle.dcr_cover.specs.Told.{Written, set_of, site_at, has_bad_name, site_stop, first_stop, owners_told}
+use Rattle.dcr_cover.specs.Told.{Written, atom_count, set_of, site_at, has_bad_name, site_stop, first_stop, owners_told}
 use Rattle.dcr_cover.specs.declared.text.CoverStop.{CoverStop}
 
 -- a list that goes through another, one element more
@@ -23,43 +27,43 @@ mapped_more f xs i d ys more y within before here pushed =
     ∙ sym (ap (map f) (take_more xs i d within) ∙ map_push f (take i xs) (get_or xs i d))
 
 -- the first site with which something is wrong
-pub stopped_at : (names : List (List ℕ)) (sites : List Written) (i : ℕ) (stop : CoverStop) → i < length sites → ((k : ℕ) → k < i → site_stop names sites k ≡ None)
-    → site_stop names sites i ≡ Some stop → first_stop names sites ≡ Some stop
+pub stopped_at : (N : Nest) (sites : List Written) (i : ℕ) (stop : CoverStop) → i < length sites → ((k : ℕ) → k < i → site_stop N sites k ≡ None)
+    → site_stop N sites i ≡ Some stop → first_stop N sites ≡ Some stop
 unfolding first_stop
-stopped_at names sites i stop within good here =
-    ap (option_and_then (site_stop names sites)) (least-from (length sites) (λ k. is_some (site_stop names sites k)) i (record {
+stopped_at N sites i stop within good here =
+    ap (option_and_then (site_stop N sites)) (least-from (length sites) (λ k. is_some (site_stop N sites k)) i (record {
       below = within;
       passes = ap is_some here;
       none_before = λ k l. ap is_some (good k l);
     }))
     ∙ here
 
-pub nothing_stops : (names : List (List ℕ)) (sites : List Written) → ((k : ℕ) → k < length sites → site_stop names sites k ≡ None) → first_stop names sites ≡ None
+pub nothing_stops : (N : Nest) (sites : List Written) → ((k : ℕ) → k < length sites → site_stop N sites k ≡ None) → first_stop N sites ≡ None
 unfolding first_stop
-nothing_stops names sites good =
-    ap (option_and_then (site_stop names sites)) (least-none_from (length sites) (λ k. is_some (site_stop names sites k)) (λ k l. ap is_some (good k l)))
+nothing_stops N sites good =
+    ap (option_and_then (site_stop N sites)) (least-none_from (length sites) (λ k. is_some (site_stop N sites k)) (λ k l. ap is_some (good k l)))
 
 none_from_test : (o : Option CoverStop) → is_some o ≡ false → o ≡ None
 none_from_test None e = refl
 none_from_test (Some stop) e = absurd (false≢true (sym e))
 
 -- where no site is refused nothing is wrong with any
-pub good_sites : (names : List (List ℕ)) (sites : List Written) → first_stop names sites ≡ None → (i : ℕ) → i < length sites → site_stop names sites i ≡ None
+pub good_sites : (N : Nest) (sites : List Written) → first_stop N sites ≡ None → (i : ℕ) → i < length sites → site_stop N sites i ≡ None
 unfolding first_stop
-good_sites names sites none i within = by (least (length sites) (λ k. is_some (site_stop names sites k))) refl
+good_sites N sites none i within = by (least (length sites) (λ k. is_some (site_stop N sites k))) refl
   where
-    by : (o : Option ℕ) → least (length sites) (λ k. is_some (site_stop names sites k)) ≡ o → site_stop names sites i ≡ None
-    by None e = none_from_test (site_stop names sites i) (least-none (length sites) (λ k. is_some (site_stop names sites k)) e i within)
-    by (Some k) e = absurd (false≢true (sym (ap is_some (sym (ap (option_and_then (site_stop names sites)) e) ∙ none)) ∙ (least-some (length sites) (λ j. is_some (site_stop names sites j)) k e).passes))
+    by : (o : Option ℕ) → least (length sites) (λ k. is_some (site_stop N sites k)) ≡ o → site_stop N sites i ≡ None
+    by None e = none_from_test (site_stop N sites i) (least-none (length sites) (λ k. is_some (site_stop N sites k)) e i within)
+    by (Some k) e = absurd (false≢true (sym (ap is_some (sym (ap (option_and_then (site_stop N sites)) e) ∙ none)) ∙ (least-some (length sites) (λ j. is_some (site_stop N sites j)) k e).passes))
 
 parts_of_none : (b : Bool) (stop : CoverStop) (o : Option CoverStop) → cond b (Some stop) o ≡ None → (b ≡ false) × (o ≡ None)
 parts_of_none true stop o e = absurd cc
 parts_of_none false stop o e = (refl, e)
 
 -- the name of a site with which nothing is wrong
-pub good_name : (names : List (List ℕ)) (sites : List Written) (i : ℕ) → site_stop names sites i ≡ None → has_bad_name sites i ≡ false
+pub good_name : (N : Nest) (sites : List Written) (i : ℕ) → site_stop N sites i ≡ None → has_bad_name sites i ≡ false
 unfolding site_stop
-good_name names sites i none = (parts_of_none _ _ _ none).0
+good_name N sites i none = (parts_of_none _ _ _ none).0
 
 parts_of_or : (a b : Bool) → (a || b) ≡ false → (a ≡ false) × (b ≡ false)
 parts_of_or true b e = absurd (false≢true (sym e))
@@ -73,32 +77,32 @@ none_below n p e k below = by (least n p) refl
     by (Some j) found = absurd (false≢true (sym e ∙ ap is_some found))
 
 -- sites with which nothing is wrong have distinct names
-names_differ : (names : List (List ℕ)) (sites : List Written) → first_stop names sites ≡ None → AreDistinct (map (λ site. site.0) sites)
-names_differ names sites none i j before within =
+names_differ : (N : Nest) (sites : List Written) → first_stop N sites ≡ None → AreDistinct (map (λ site. site.0) sites)
+names_differ N sites none i j before within =
     let below : j < length sites = omega (arith, length-map sites (λ site. site.0)) in
-    let good = good_name names sites j (good_sites names sites none j below) in
+    let good = good_name N sites j (good_sites N sites none j below) in
     ap (λ name. bytes_eq name (get_or (map (λ site. site.0) sites) j [])) (get_or-map (λ site. site.0) sites i ([], []) [] (omega arith))
     ∙ ap (bytes_eq (site_at sites i).0) (get_or-map (λ site. site.0) sites j ([], []) [] below)
     ∙ none_below j (λ k. bytes_eq (site_at sites k).0 (site_at sites j).0) (parts_of_or _ _ good).1 i before
 
 -- each owned set has a place for each atom
-pub rooms_told : (names : List (List ℕ)) (sites : List Written) → All (λ set. length set ≡ length names) (owners_told names sites).owned
-rooms_told names sites = All-from_get_or (λ set. length set ≡ length names) (map (λ site. set_of names site.1) sites) [] (λ i within.
-    ap (λ s. length s) (get_or-map (λ site. set_of names site.1) sites i ([], []) [] (omega (arith, length-map sites (λ site. set_of names site.1)))) ∙ length-those (length names) _)
+pub rooms_told : (N : Nest) (sites : List Written) → All (λ set. length set ≡ atom_count N) (owners_told N sites).owned
+rooms_told N sites = All-from_get_or (λ set. length set ≡ atom_count N) (map (λ site. set_of N site.1) sites) [] (λ i within.
+    ap (λ s. length s) (get_or-map (λ site. set_of N site.1) sites i ([], []) [] (omega (arith, length-map sites (λ site. set_of N site.1)))) ∙ length-those (atom_count N) _)
 
-pub atoms_told : (names : List (List ℕ)) (sites : List Written) → 1 ≤ length sites → atoms_of (owners_told names sites).owned ≡ length names
-atoms_told names sites some = ap (λ s. length s) (get_or-map (λ site. set_of names site.1) sites 0 ([], []) [] (omega arith)) ∙ length-those (length names) _
+pub atoms_told : (N : Nest) (sites : List Written) → 1 ≤ length sites → atoms_of (owners_told N sites).owned ≡ atom_count N
+atoms_told N sites some = ap (λ s. length s) (get_or-map (λ site. set_of N site.1) sites 0 ([], []) [] (omega arith)) ∙ length-those (atom_count N) _
 
 -- sites with which nothing is wrong, and which own each atom, are a cover
-pub cover_is : (names : List (List ℕ)) (sites : List Written) → 1 ≤ length sites → length sites ≤ 64 → first_stop names sites ≡ None
-    → ((atom : ℕ) → atom < length names → is_owned (owners_told names sites).owned atom ≡ true) → IsCover (owners_told names sites)
-cover_is names sites some most none owned = record {
+pub cover_is : (N : Nest) (sites : List Written) → 1 ≤ length sites → length sites ≤ 64 → first_stop N sites ≡ None
+    → ((atom : ℕ) → atom < atom_count N → is_owned (owners_told N sites).owned atom ≡ true) → IsCover (owners_told N sites)
+cover_is N sites some most none owned = record {
   some_site = omega (arith, length-map sites (λ site. site.0));
   most_sites = omega (arith, length-map sites (λ site. site.0));
-  as_many = length-map sites (λ site. set_of names site.1) ∙ sym (length-map sites (λ site. site.0));
-  distinct = names_differ names sites none;
-  rooms = subst (λ n. All (λ set. length set ≡ n) (owners_told names sites).owned) (sym (atoms_told names sites some)) (rooms_told names sites);
-  covered = λ atom below. owned atom (omega (arith, atoms_told names sites some));
+  as_many = length-map sites (λ site. set_of N site.1) ∙ sym (length-map sites (λ site. site.0));
+  distinct = names_differ N sites none;
+  rooms = subst (λ n. All (λ set. length set ≡ n) (owners_told N sites).owned) (sym (atoms_told N sites some)) (rooms_told N sites);
+  covered = λ atom below. owned atom (omega (arith, atoms_told N sites some));
 }
 
 not_false : (b : Bool) → not b ≡ false → b ≡ true
@@ -110,11 +114,15 @@ pub each_owned : (owned : List Set) (n : ℕ) → None ≡ least n (λ atom. not
 each_owned owned n none atom below = not_false (is_owned owned atom) (least-none n (λ a. not (is_owned owned a)) (sym none) atom below)
 
 -- what was read is a cover
-pub read_cover : (index atoms_names names : List (List ℕ)) (sites : List Written) (owned seen : List Set) (atoms : ℕ) → index ≡ atoms_names → 1 ≤ length sites → length sites ≤ 64
-    → names ≡ (owners_told index sites).names → owned ≡ (owners_told index sites).owned → first_stop index sites ≡ None → seen ≡ owned → atoms ≡ length atoms_names
+pub read_cover : (index N : Nest) (names : List (List ℕ)) (sites : List Written) (owned seen : List Set) (atoms : ℕ) → index ≡ N → 1 ≤ length sites → length sites ≤ 64
+    → names ≡ (owners_told index sites).names → owned ≡ (owners_told index sites).owned → first_stop index sites ≡ None → seen ≡ owned → atoms ≡ atom_count N
     → None ≡ least atoms (λ atom. not (is_owned seen atom)) → IsCover (owners names owned)
-read_cover index atoms_names names sites owned seen atoms same some most names_are owned_are none lent many unowned =
-    let each : (atom : ℕ) → atom < length index → is_owned (owners_told index sites).owned atom ≡ true =
-    λ atom below. ap (λ sets. is_owned sets atom) (sym (lent ∙ owned_are)) ∙ each_owned seen atoms unowned atom (omega (arith, ap (λ ns. length ns) same)) in
+read_cover index N names sites owned seen atoms same some most names_are owned_are none lent many unowned =
+    let each : (atom : ℕ) → atom < atom_count index → is_owned (owners_told index sites).owned atom ≡ true =
+    λ atom below. ap (λ sets. is_owned sets atom) (sym (lent ∙ owned_are)) ∙ each_owned seen atoms unowned atom (omega (arith, ap atom_count same)) in
     subst (λ sets. IsCover (owners names sets)) (sym owned_are)
     (subst (λ ns. IsCover (owners ns (owners_told index sites).owned)) (sym names_are) (cover_is index sites some most none each))
+
+-- a flattening has a name for each atom
+pub length-names : (N : Nest) (G : Flat) → IsFlattening N G → length G.names ≡ atom_count N
+length-names N G flat = ap (λ names. length names) flat.names ∙ length-map (atoms (parents_of N.nodes)) (λ x. get_or (names_of N.nodes) x [])

@@ -1,10 +1,12 @@
--- The cover that a list of sites means for the atoms with these names, or the first reason why it means none.
-use Rattle.std.specs.Prelude.{ℕ, Bool, false, not, ◌||◌, ◌==◌, List, [], length, map, is_some, is_none, Option, Some, None, Result, Ok, Err, option_map, option_and_then, if◌then◌else◌, slice_index_or}
+-- The cover that a list of sites means for a nested graph, or the first reason why it means none.
+use Rattle.std.specs.Prelude.{ℕ, Bool, false, not, ◌||◌, List, [], length, map, is_some, is_none, Option, Some, None, Result, Ok, Err, option_map, option_and_then, if◌then◌else◌, slice_index_or}
 use Rattle.std.specs.List.{list_any}
 use Rattle.std.specs.Str.{bytes_eq}
 use Rattle.dcr_set.specs.Least.{least, some_below}
 use Rattle.dcr_set.specs.EventSet.{Set, has, those}
 use Rattle.dcr_graph.specs.Names.{is_name, number_of}
+use Rattle.dcr_nest.specs.Nest.{Nest, names_of, parents_of}
+use Rattle.dcr_nest.specs.Tree.{atoms, atoms_below}
 use Rattle.dcr_proj.specs.CoverValue.{Owners, owners, is_owned}
 use Rattle.dcr_cover.specs.declared.text.CoverStop.{CoverStop}
 use Rattle.dcr_cover.specs.declared.text.CoverStop.TheVariants.{SiteName, Owned, Uncovered}
@@ -13,9 +15,17 @@ use Rattle.dcr_cover.specs.declared.text.CoverStop.TheVariants.{SiteName, Owned,
 abbrev pub Written : Type 0
 Written = List ℕ × List (List ℕ)
 
--- what an owned text means: the set of the atom that has this name, or none
-unfoldable pub meaning : List (List ℕ) → List ℕ → Option Set
-meaning names text = option_map (λ a. those (length names) (λ k. k == a)) (number_of names text)
+-- how many of the nodes are atoms
+abbrev pub atom_count : Nest → ℕ
+atom_count N = length (atoms (parents_of N.nodes))
+
+-- the node that a text names: the one that has this name, or none
+abbrev pub node_named : Nest → List ℕ → Option ℕ
+node_named N text = number_of (names_of N.nodes) text
+
+-- what an owned text means: the atoms at or below the node that it names, or nothing
+unfoldable pub meaning : Nest → List ℕ → Option Set
+meaning N text = option_map (atoms_below (parents_of N.nodes)) (node_named N text)
 
 -- whether an atom is in what a text means
 abbrev pub is_in : Option Set → ℕ → Bool
@@ -23,36 +33,36 @@ is_in None atom = false
 is_in (Some set) atom = has set atom
 
 -- the atoms that a text of the list means; a text that stands twice counts once
-abbrev pub set_of : List (List ℕ) → List (List ℕ) → Set
-set_of names texts = those (length names) (λ atom. list_any (λ text. is_in (meaning names text) atom) texts)
+abbrev pub set_of : Nest → List (List ℕ) → Set
+set_of N texts = those (atom_count N) (λ atom. list_any (λ text. is_in (meaning N text) atom) texts)
 
 -- the place of the first text of the list that means nothing
-abbrev pub first_unknown : List (List ℕ) → List (List ℕ) → Option ℕ
-first_unknown names texts = least (length texts) (λ j. is_none (meaning names (slice_index_or texts j [])))
+abbrev pub first_unknown : Nest → List (List ℕ) → Option ℕ
+first_unknown N texts = least (length texts) (λ j. is_none (meaning N (slice_index_or texts j [])))
 
 -- the site at a place
 abbrev pub site_at : List Written → ℕ → Written
 site_at sites i = slice_index_or sites i ([], [])
 
--- the text at place i is a site's name where it is a name, and no earlier site's
+-- whether the name of the site at place i is no name, or is an earlier site's
 abbrev pub has_bad_name : List Written → ℕ → Bool
 has_bad_name sites i = not (is_name (site_at sites i).0) || some_below i (λ k. bytes_eq (site_at sites k).0 (site_at sites i).0)
 
 -- what is wrong with site i: its name, or else the first of its owned texts that means nothing
-unfoldable pub site_stop : List (List ℕ) → List Written → ℕ → Option CoverStop
-site_stop names sites i = if has_bad_name sites i then Some (SiteName i) else option_map (Owned i) (first_unknown names (site_at sites i).1)
+unfoldable pub site_stop : Nest → List Written → ℕ → Option CoverStop
+site_stop N sites i = if has_bad_name sites i then Some (SiteName i) else option_map (Owned i) (first_unknown N (site_at sites i).1)
 
 -- what is wrong with the first site with which something is
-unfoldable pub first_stop : List (List ℕ) → List Written → Option CoverStop
-first_stop names sites = option_and_then (site_stop names sites) (least (length sites) (λ i. is_some (site_stop names sites i)))
+unfoldable pub first_stop : Nest → List Written → Option CoverStop
+first_stop N sites = option_and_then (site_stop N sites) (least (length sites) (λ i. is_some (site_stop N sites i)))
 
 -- the sites by name, and what they own
-abbrev pub owners_told : List (List ℕ) → List Written → Owners
-owners_told names sites = owners (map (λ site. site.0) sites) (map (λ site. set_of names site.1) sites)
+abbrev pub owners_told : Nest → List Written → Owners
+owners_told N sites = owners (map (λ site. site.0) sites) (map (λ site. set_of N site.1) sites)
 
 -- the least atom that no site owns
-abbrev pub first_uncovered : List (List ℕ) → List Written → Option ℕ
-first_uncovered names sites = least (length names) (λ atom. not (is_owned (owners_told names sites).owned atom))
+abbrev pub first_uncovered : Nest → List Written → Option ℕ
+first_uncovered N sites = least (atom_count N) (λ atom. not (is_owned (owners_told N sites).owned atom))
 
 -- a refusal of a site, else of an atom, else the cover
 abbrev pub told_by : Option CoverStop → Option ℕ → Owners → Result Owners CoverStop
@@ -60,5 +70,5 @@ told_by (Some stop) atom cover = Err stop
 told_by None (Some atom) cover = Err (Uncovered atom)
 told_by None None cover = Ok cover
 
-unfoldable pub cover_told : List (List ℕ) → List Written → Result Owners CoverStop
-cover_told names sites = told_by (first_stop names sites) (first_uncovered names sites) (owners_told names sites)
+unfoldable pub cover_told : Nest → List Written → Result Owners CoverStop
+cover_told N sites = told_by (first_stop N sites) (first_uncovered N sites) (owners_told N sites)

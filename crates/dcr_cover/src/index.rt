@@ -1,59 +1,86 @@
 use dcr_graph::Graph;
-use dcr_set::{EventId, NoMemory};
+use dcr_nest::Nested;
+use dcr_set::{EventSet, NoMemory};
 use indexmap::IndexSet;
 use std::alloc::Global;
 use std::marker::Model;
 
-/// The atoms of a graph by name, so that a name is found without a walk over all of them. Contracts see
-/// the names in the order of the atoms.
+/// The nodes of a nested graph by name, so that a name is found without a walk over all of them, and the
+/// atoms at or below each, so that they are gathered once and not at every text. Contracts see the nested
+/// graph.
 #[derive(Drop)]
-pub(crate) struct Index<'g> {
-    names: IndexSet<&'g str>,
+pub(crate) struct Index<'n> {
+    nested: &'n Nested,
+    atoms: u16,
+    names: IndexSet<&'n str>,
+    below: Vec<EventSet>,
 }
 
-impl<'g> Model for Index<'g> {
-    ghost use Rattle.std.specs.Prelude.{List, ℕ};
+impl<'n> Model for Index<'n> {
+    ghost use Rattle.dcr_nest.specs.Nest.{Nest};
 
-    ghost Value = { List (List ℕ) };
+    ghost Value = { Nest };
 
-    ghost use Rattle.dcr_cover.specs.IndexModel.{names_of, FitsAtoms};
+    ghost use Rattle.dcr_cover.specs.IndexModel.{nest_of, IsIndex};
 
-    ghost view = { names_of };
+    ghost view = { nest_of };
 
-    ghost invariant = { FitsAtoms };
+    ghost invariant = { IsIndex };
 }
 
-impl<'g> Index<'g> {
-    ghost use Rattle.std.specs.Prelude.{◌≡◌, ◌≤◌, length, IfOk};
-    ghost use Rattle.dcr_graph.specs.Names.{number_of};
+impl<'n> Index<'n> {
+    ghost use Rattle.std.specs.Prelude.{◌≡◌, ◌<◌, ◌≤◌, length, IfOk};
+    ghost use Rattle.dcr_nest.specs.FlatRelation.{IsFlattening};
+    ghost use Rattle.dcr_nest.specs.Nest.{parents_of};
+    ghost use Rattle.dcr_nest.specs.Tree.{atoms_below};
+    ghost use Rattle.dcr_cover.specs.Told.{atom_count, node_named};
 
-    /// Of the atoms of a graph.
-    pub(crate) fn new(alloc: Global, graph: &'g Graph) -> Result<Index<'g>, NoMemory>
-        ensures { IfOk result (λ index. index ≡ graph.now.names) }
+    /// Of a nested graph, whose flattening has as many atoms.
+    pub(crate) fn new(
+        alloc: Global,
+        nested: &'n Nested,
+        graph: &Graph,
+    ) -> Result<Index<'n>, NoMemory>
+        requires { IsFlattening nested.now graph.now }
+        ensures { IfOk result (λ index. index ≡ nested.now) }
     {
         let mut names = IndexSet::new(alloc);
-        for number in 0..graph.atoms() {
-            let name = graph.name(EventId(number)).text();
-            names.insert(name)?;
+        for node in nested.nodes() {
+            names.insert(node.name.text())?;
         }
-        Ok(Index { names })
+        let below = nested.all_below(alloc)?;
+        Ok(Index {
+            nested,
+            atoms: graph.atoms(),
+            names,
+            below,
+        })
     }
 
     /// How many atoms there are.
     pub(crate) fn atoms(&self) -> u16
-        ensures atoms { result ≡ length self.now }
-        ensures most { length self.now ≤ 1024 }
+        ensures atoms { result ≡ atom_count self.now }
+        ensures most { atom_count self.now ≤ 1024 }
     {
-        self.names.len() as u16
+        self.atoms
     }
 
-    /// The atom with this name. None exactly where no atom has it.
-    pub(crate) fn find(&self, name: &str) -> Option<EventId>
-        ensures { result ≡ number_of self.now name.now }
+    /// The node with this name. None exactly where no node has it.
+    pub(crate) fn find(&self, name: &str) -> Option<u16>
+        ensures { result ≡ node_named self.now name.now }
     {
         let Some(place) = self.names.get_index_of(name) else {
             return None;
         };
-        Some(EventId(place as u16))
+        Some(place as u16)
+    }
+
+    /// The atoms at or below a node.
+    pub(crate) fn below(&self, node: u16) -> &EventSet
+        requires { node < length self.now.nodes }
+        ensures below { result.now ≡ atoms_below (parents_of self.now.nodes) node }
+        ensures room { length result.now ≡ atom_count self.now }
+    {
+        &self.below[usize::from(node)]
     }
 }

@@ -10,6 +10,6 @@ mod sites;
 mod tests;
 mod text;
 
-pub use cover::check;
+pub use cover::{check, check_texts};
 pub use laws::refusals_of_covers;
-pub use text::{CoverStop, SiteText};
+pub use text::{AsSiteText, CoverStop, SiteText};

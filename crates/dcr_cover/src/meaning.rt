@@ -1,19 +1,17 @@
-ghost use Rattle.std.specs.Prelude.{◌≡◌, length, IfSome};
-ghost use Rattle.dcr_cover.specs.Told.{meaning};
+ghost use Rattle.std.specs.Prelude.{◌≡◌, length, option_map, IfSome};
+ghost use Rattle.dcr_cover.specs.Told.{atom_count, meaning};
 
 use crate::index::Index;
 use dcr_set::EventSet;
 
-/// What an owned text means: the set of the atom that has this name. None where it means nothing.
+/// What an owned text means: the atoms at or below the node that has this name. None where no node has it.
 #[tactic(auto, unfolding(crate::specs::Told::meaning))]
-pub(crate) fn meaning(index: &Index<'_>, text: &str) -> Option<EventSet>
-    ensures meaning { result ≡ meaning index.now text.now }
-    ensures room { IfSome result (λ set. length set ≡ length index.now) }
+pub(crate) fn meaning<'i>(index: &'i Index<'_>, text: &str) -> Option<&'i EventSet>
+    ensures meaning { option_map (λ set. set.now) result ≡ meaning index.now text.now }
+    ensures room { IfSome result (λ set. length set.now ≡ atom_count index.now) }
 {
-    let Some(e) = index.find(text) else {
+    let Some(node) = index.find(text) else {
         return None;
     };
-    let mut set = EventSet::new(index.atoms());
-    set.insert(e);
-    Some(set)
+    Some(index.below(node))
 }

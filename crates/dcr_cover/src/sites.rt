@@ -1,29 +1,28 @@
-ghost use Rattle.std.specs.Prelude.{◌≡◌, ◌≢◌, ◌<◌, ◌≤◌, ◌^◌, true, false, None, Some, length, map, All, IfOk, IfErr, OnOk, MatchResult, string_bytes, vec_len};
+ghost use Rattle.std.specs.Prelude.{◌≡◌, ◌≢◌, ◌<◌, ◌≤◌, ◌^◌, true, false, None, Some, length, map, All, IfOk, IfErr, OnOk, MatchResult};
 ghost use Rattle.std.specs.Str.{bytes_eq};
 ghost use Rattle.dcr_set.specs.Least.{some_below};
 ghost use Rattle.dcr_cover.specs.Told.{first_stop, first_unknown, has_bad_name, owners_told, set_of, site_at, site_stop};
-ghost use Rattle.dcr_cover.specs.Steps.{written};
 ghost use Rattle.dcr_cover.specs.declared.text.CoverStop.TheVariants.{NoMemory, SiteName};
 
 use crate::index::Index;
 use crate::meaning::meaning;
-use crate::{CoverStop, SiteText};
+use crate::{AsSiteText, CoverStop};
 use dcr_graph::{Name, NameStop};
 use dcr_set::EventSet;
 use std::alloc::Global;
 
 /// The names of the sites and what they own, or what is wrong with the first site with which something is.
-pub(crate) fn read_sites(
+pub(crate) fn read_sites<S: AsSiteText>(
     alloc: Global,
     index: &Index<'_>,
-    sites: &[SiteText],
+    sites: &[S],
 ) -> Result<(Vec<Name>, Vec<EventSet>), CoverStop>
     requires most { length sites.now ≤ 64 }
-    requires texts { All (λ site. vec_len site.owned < 2 ^ 32) sites.now }
-    ensures names { IfOk result (λ read. read.0.items ≡ (owners_told index.now (map written sites.now)).names) }
-    ensures owned { IfOk result (λ read. read.1.items ≡ (owners_told index.now (map written sites.now)).owned) }
-    ensures good { OnOk result (first_stop index.now (map written sites.now) ≡ None) }
-    ensures stop { IfErr result (λ stop. stop ≢ NoMemory → first_stop index.now (map written sites.now) ≡ Some stop) }
+    requires texts { All (λ site. length (S.written site).1 < 2 ^ 32) sites.now }
+    ensures names { IfOk result (λ read. read.0.items ≡ (owners_told index.now (map S.written sites.now)).names) }
+    ensures owned { IfOk result (λ read. read.1.items ≡ (owners_told index.now (map S.written sites.now)).owned) }
+    ensures good { OnOk result (first_stop index.now (map S.written sites.now) ≡ None) }
+    ensures stop { IfErr result (λ stop. stop ≢ NoMemory → first_stop index.now (map S.written sites.now) ≡ Some stop) }
 {
     let mut names = Vec::new(alloc);
     let mut owned = Vec::new(alloc);
@@ -37,36 +36,36 @@ pub(crate) fn read_sites(
 
 // The name of a site and what it owns.
 #[tactic(auto, unfolding(crate::specs::Told::site_stop))]
-fn read_site(
+fn read_site<S: AsSiteText>(
     alloc: Global,
     index: &Index<'_>,
-    sites: &[SiteText],
+    sites: &[S],
     i: usize,
 ) -> Result<(Name, EventSet), CoverStop>
     requires most { length sites.now ≤ 64 }
-    requires texts { All (λ site. vec_len site.owned < 2 ^ 32) sites.now }
+    requires texts { All (λ site. length (S.written site).1 < 2 ^ 32) sites.now }
     requires within { i < length sites.now }
-    ensures name { IfOk result (λ site. site.0 ≡ (site_at (map written sites.now) i).0) }
-    ensures owned { IfOk result (λ site. site.1 ≡ set_of index.now (site_at (map written sites.now) i).1) }
-    ensures good { OnOk result (site_stop index.now (map written sites.now) i ≡ None) }
-    ensures stop { IfErr result (λ stop. stop ≢ NoMemory → site_stop index.now (map written sites.now) i ≡ Some stop) }
+    ensures name { IfOk result (λ site. site.0 ≡ (site_at (map S.written sites.now) i).0) }
+    ensures owned { IfOk result (λ site. site.1 ≡ set_of index.now (site_at (map S.written sites.now) i).1) }
+    ensures good { OnOk result (site_stop index.now (map S.written sites.now) i ≡ None) }
+    ensures stop { IfErr result (λ stop. stop ≢ NoMemory → site_stop index.now (map S.written sites.now) i ≡ Some stop) }
 {
     let name = read_name(alloc, sites, i)?;
-    match read_owned(index, &sites[i].owned) {
+    match read_owned(index, &sites[i]) {
         Ok(set) => Ok((name, set)),
         Err(j) => Err(CoverStop::Owned { i: i as u32, j }),
     }
 }
 
 // The name of a site, which is a name and no earlier site's.
-fn read_name(alloc: Global, sites: &[SiteText], i: usize) -> Result<Name, CoverStop>
+fn read_name<S: AsSiteText>(alloc: Global, sites: &[S], i: usize) -> Result<Name, CoverStop>
     requires most { length sites.now ≤ 64 }
     requires within { i < length sites.now }
-    ensures name { IfOk result (λ name. name ≡ (site_at (map written sites.now) i).0) }
-    ensures good { OnOk result (has_bad_name (map written sites.now) i ≡ false) }
-    ensures bad { IfErr result (λ stop. stop ≢ NoMemory → (stop ≡ SiteName i) × (has_bad_name (map written sites.now) i ≡ true)) }
+    ensures name { IfOk result (λ name. name ≡ (site_at (map S.written sites.now) i).0) }
+    ensures good { OnOk result (has_bad_name (map S.written sites.now) i ≡ false) }
+    ensures bad { IfErr result (λ stop. stop ≢ NoMemory → (stop ≡ SiteName i) × (has_bad_name (map S.written sites.now) i ≡ true)) }
 {
-    let text = sites[i].name.as_str();
+    let text = sites[i].name();
     if is_named_before(sites, i, text) {
         return Err(CoverStop::SiteName { i: i as u32 });
     }
@@ -78,29 +77,29 @@ fn read_name(alloc: Global, sites: &[SiteText], i: usize) -> Result<Name, CoverS
 }
 
 // Whether a site before place i has this name.
-fn is_named_before(sites: &[SiteText], i: usize, name: &str) -> bool
+fn is_named_before<S: AsSiteText>(sites: &[S], i: usize, name: &str) -> bool
     requires { i < length sites.now }
-    ensures { result ≡ some_below i (λ k. bytes_eq (site_at (map written sites.now) k).0 name.now) }
+    ensures { result ≡ some_below i (λ k. bytes_eq (site_at (map S.written sites.now) k).0 name.now) }
 {
     for k in 0..i {
-        if sites[k].name.as_str() == name {
+        if sites[k].name() == name {
             return true;
         }
     }
     false
 }
 
-// What the texts mean together, or the place of the first that means nothing.
-fn read_owned(index: &Index<'_>, texts: &[String]) -> Result<EventSet, u32>
-    requires { length texts.now < 2 ^ 32 }
-    ensures set { IfOk result (λ set. set ≡ set_of index.now (map string_bytes texts.now)) }
-    ensures known { OnOk result (first_unknown index.now (map string_bytes texts.now) ≡ None) }
-    ensures unknown { IfErr result (λ j. first_unknown index.now (map string_bytes texts.now) ≡ Some j) }
+// What the owned texts mean together, or the place of the first that means nothing.
+fn read_owned<S: AsSiteText>(index: &Index<'_>, site: &S) -> Result<EventSet, u32>
+    requires { length (S.written site.now).1 < 2 ^ 32 }
+    ensures set { IfOk result (λ set. set ≡ set_of index.now (S.written site.now).1) }
+    ensures known { OnOk result (first_unknown index.now (S.written site.now).1 ≡ None) }
+    ensures unknown { IfErr result (λ j. first_unknown index.now (S.written site.now).1 ≡ Some j) }
 {
     let mut set = EventSet::new(index.atoms());
-    for j in 0..texts.len() {
-        match meaning(index, texts[j].as_str()) {
-            Some(events) => set.union_with(&events),
+    for j in 0..site.owned_len() {
+        match meaning(index, site.owned_text(j)) {
+            Some(events) => set.union_with(events),
             None => return Err(j as u32),
         }
     }
