@@ -101,7 +101,7 @@ module _ (G : Rules) (S : Set) (M : Marking) (e : ℕ) where
 -- ---- a site that stands at a marking
 
 module _ (G : Rules) (S : Set) (M : Marking) (site : Seen) (at : StandsAt G S M site) (e : ℕ) where
-  atoms_are : length site.projection.tracked_in ≡ length site.projection.own → length site.projection.own ≡ G.atoms
+  pub atoms_are : length site.projection.tracked_in ≡ length site.projection.own → length site.projection.own ≡ G.atoms
   atoms_are room = sym room ∙ ap (λ P. length P.tracked_in) at.projection ∙ length-those G.atoms (tracks_included G S)
 
   pub decided_by_masks : (row : Guards) → length site.projection.tracked_in ≡ length site.projection.own → e < length site.projection.own

@@ -3,7 +3,7 @@ ghost use Rattle.dcr_site.specs.MarksAfter.{marks_after};
 
 use dcr_graph::{Cause, Marking, SiteMark};
 use dcr_proj::{Effects, Projection};
-use dcr_set::EventId;
+use dcr_set::{EventId, EventSet};
 use std::marker::Model;
 
 /// What a site answers when it is asked whether an event may be executed.
@@ -39,15 +39,17 @@ impl Model for Site {
 }
 
 impl Site {
-    ghost use Rattle.std.specs.Prelude.{◌≡◌, ◌<◌, List, Bool, ℕ, true, length};
+    ghost use Rattle.std.specs.Prelude.{◌≡◌, ◌<◌, ◌≤◌, ◌&&◌, List, Bool, ℕ, true, length, is_none};
     ghost use Rattle.dcr_set.specs.EventSet.{has};
+    ghost use Rattle.dcr_set.specs.declared.id.TheConstants.{MAX_ATOMS};
     ghost use Rattle.dcr_graph.specs.Rules.{Rules};
+    ghost use Rattle.dcr_graph.specs.Cause.{cause};
     ghost use Rattle.dcr_graph.specs.Step.{step};
     ghost use Rattle.dcr_graph.specs.Projection.{HasRoom};
     ghost use Rattle.dcr_graph.specs.declared.marking.Marking.{Marking as Marks};
     ghost use Rattle.dcr_proj.specs.Local.{cut_to, projection_of};
     ghost use Rattle.dcr_site.specs.Seen.{StandsAt};
-    ghost use Rattle.dcr_site.specs.Decision.{decision, owned_waits};
+    ghost use Rattle.dcr_site.specs.Decision.{decision, owned_enabled, owned_waits};
 
     /// The site with this projection, whose marks are those of a marking over as many atoms. Where the
     /// projection is that of a graph to an owned set, the site stands at that marking.
@@ -104,6 +106,39 @@ impl Site {
         ensures { result ≡ self.now.mark }
     {
         self.mark.copy()
+    }
+
+    /// The owned events that may be executed, in a set with the room of the projection. Takes no memory.
+    pub fn can(&self) -> EventSet
+        ensures enabled { (G : Rules) (S : List Bool) (M : Marks) → StandsAt G S M self.now → result ≡ owned_enabled G S M }
+        ensures room { length result ≡ length self.now.projection.own }
+    {
+        let atoms = self.atoms();
+        let mut can = EventSet::new(atoms);
+        for number in 0..atoms {
+            let e = EventId(number);
+            if self.enables(e) {
+                can.insert(e);
+            }
+        }
+        can
+    }
+
+    // How many atoms the projection is over.
+    fn atoms(&self) -> u16
+        ensures own { result ≡ length self.now.projection.own }
+        ensures most { result ≤ MAX_ATOMS }
+        ensures stands { (G : Rules) (S : List Bool) (M : Marks) → StandsAt G S M self.now → result ≡ G.atoms }
+    {
+        self.projection.own().room()
+    }
+
+    // Whether the event, which is an atom, is owned and may be executed.
+    fn enables(&self, e: EventId) -> bool
+        requires { e < length self.now.projection.own }
+        ensures { (G : Rules) (S : List Bool) (M : Marks) → StandsAt G S M self.now → result ≡ (has S e && is_none (cause G M e)) }
+    {
+        matches!(self.decide(e), Decision::Enabled)
     }
 
     /// The least owned event that is included and pending. None exactly where there is none.

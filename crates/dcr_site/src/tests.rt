@@ -359,3 +359,27 @@ fn the_least_condition_is_told_before_a_milestone(rt: HostRuntime) -> Result<(),
     );
     Ok(())
 }
+
+// The events that may be executed at a site that owns some of three atoms with these pairs, once it has
+// heard of these executions.
+fn enabled(
+    alloc: Global,
+    pairs: &[(Kind, u16, u16)],
+    own: &[u16],
+    executed: &[u16],
+) -> Result<[bool; 3], Fail> {
+    let graph = graph_of(alloc, pairs)?;
+    let site = site_after(alloc, &graph, &event_set(own), &opening(&[]), executed)?;
+    Ok(members(&site.can()))
+}
+
+#[test]
+fn a_site_tells_which_of_its_events_are_enabled(rt: HostRuntime) -> Result<(), Fail> {
+    let first = [true, false, false];
+    let last = [false, false, true];
+    assert_eq!(rt; enabled(rt.alloc(), &MEDICATION, &[0, 1], &[])?, first);
+    assert_eq!(rt; enabled(rt.alloc(), &MEDICATION, &[2], &[0])?, NONE);
+    assert_eq!(rt; enabled(rt.alloc(), &MEDICATION, &[2], &[0, 1])?, last);
+    assert_eq!(rt; enabled(rt.alloc(), &[], &[0, 1, 2], &[])?, ALL);
+    Ok(())
+}
