@@ -1,0 +1,3 @@
+mod SitesLemmas
+mod SessionLemmas
+pub mod RunLemmas

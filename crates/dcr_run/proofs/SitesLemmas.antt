@@ -1,0 +1,277 @@
+-- Lists of sites: what stands at each place, one site more, one site changed; and the least atom that waits.
+use Rattle.std.proofs.Common.{◌≡◌, ◌≢◌, ◌⊎◌, ℕ, ◌+◌, ◌<◌, ◌≤◌, Bool, true, false, ◌&&◌, ◌||◌, eqb, List, [], ◌∷◌, ◌++◌, length, get_or, set, map, take, Option, Some, None, inl, inr, refl, sym, ap, subst, ◌∙◌, arith, length-set, get_or-set_same, get_or-set_other}
+use Rattle.std.proofs.lemmas.Option.{slice_get_within, get_or_from_slice_get, slice_get-get_or}
+use Rattle.std.proofs.lemmas.Grind.{get_or_default_zero}
+use Rattle.std.proofs.lemmas.List.{length-take-le, get_or-take, take_all, get_or_append_left, length-append, ext_get_or, get_or-map, length-map}
+use Rattle.std.proofs.Math.Seq.{get_or-append_seam}
+use Rattle.std.proofs.lemmas.List.Folds.{list_any_more, list_any_none, list_any_at, Any-from_list_any}
+use Rattle.std.proofs.lemmas.List.Kept.{AllPairs-from_increasing}
+use Rattle.std.specs.List.Sorted.{IsStrictlyIncreasing}
+use Rattle.std.proofs.lemmas.Bool.{cases_lt, cases_eq, eq-eqb, ne_eqb, eqb-true, false≢true, false_from_ne_true}
+use Rattle.dcr_graph.proofs.BoolLemmas.{or_true, or_false}
+use Rattle.std.specs.Prelude.{slice_get}
+use Rattle.std.specs.List.{All, list_any, Contains}
+use Rattle.dcr_set.specs.Least.{least}
+use Rattle.dcr_set.specs.EventSet.{Set, has}
+use Rattle.dcr_set.proofs.LeastLemmas.{least-none_from, least-ext}
+use Rattle.dcr_graph.specs.Rules.{Rules}
+use Rattle.dcr_graph.specs.Rows.{row}
+use Rattle.dcr_graph.specs.Step.{step}
+use Rattle.dcr_graph.specs.Cause.{waits}
+use Rattle.dcr_graph.specs.Projection.{project}
+use Rattle.dcr_graph.specs.declared.marking.Marking.{Marking}
+use Rattle.dcr_journal.specs.Run.{marks_at}
+use Rattle.dcr_proj.specs.CoverValue.{atoms_of}
+use Rattle.dcr_proj.specs.NetworkValue.{IsNetwork, participants_of}
+use Rattle.dcr_proj.proofs.NetworkLemmas.{hears, participant_hears, hears_participant, participants_ascend, participants_below}
+use Rattle.dcr_site.proofs.SiteLemmas.{unheard}
+use Rattle.dcr_site.specs.Seen.{Seen, StandsAt}
+use Rattle.dcr_site.specs.Decision.{owned_waits}
+use Rattle.dcr_run.specs.SitesModel.{alphabets_in}
+use Rattle.dcr_laws.specs.AtSites.{IsCovered, lesser}
+use Rattle.dcr_laws.proofs.WaitsLemmas.{lesser-least}
+use Rattle.dcr_run.specs.Engine.{AllStand, IsOver, AreOver, AreOverMore, Heard, HeardEach, waits_in}
+
+-- ---- lists
+
+pub set_cases : {X : Type 0} (xs : List X) (i : ℕ) (y : X) (j : ℕ) (x : X) → i < length xs → slice_get (set xs i y) j ≡ Some x
+    → ((j ≡ i) × (x ≡ y)) ⊎ ((j ≢ i) × (slice_get xs j ≡ Some x))
+set_cases xs i y j x within is =
+    let room = length-set xs i y in let below = slice_get_within (set xs i y) j x is in
+    let value : get_or (set xs i y) j x ≡ x = get_or_from_slice_get (set xs i y) j x x is in
+    elim (cases_eq j i) [
+      | inl same ↦ inl (same, sym value ∙ ap (λ k. get_or (set xs i y) k x) same ∙ get_or-set_same xs i y x within)
+      | inr other ↦ inr (other, slice_get-get_or xs j x (omega arith) ∙ ap Some (sym (get_or-set_other xs i j y x other) ∙ value))
+    ]
+
+pub push_cases : {X : Type 0} (xs : List X) (y : X) (j : ℕ) (x : X) → slice_get (xs ++ y ∷ []) j ≡ Some x → ((j ≡ length xs) × (x ≡ y)) ⊎ (slice_get xs j ≡ Some x)
+push_cases xs y j x is =
+    let room = length-append xs (y ∷ []) in let below = slice_get_within (xs ++ y ∷ []) j x is in
+    let value : get_or (xs ++ y ∷ []) j x ≡ x = get_or_from_slice_get (xs ++ y ∷ []) j x x is in
+    elim (cases_lt j (length xs)) [
+      | inl before ↦ inr (slice_get-get_or xs j x before ∙ ap Some (sym (get_or_append_left xs (y ∷ []) x j before) ∙ value))
+      | inr past ↦ let same : j ≡ length xs = omega arith in inl (same, sym value ∙ ap (λ k. get_or (xs ++ y ∷ []) k x) same ∙ get_or-append_seam xs y [] x)
+    ]
+
+-- ---- sites that stand together
+
+-- the sites before i stand with their owned sets
+pub record StandBefore (G : Rules) (C : List Set) (M : Marking) (i : ℕ) (sites : List Seen) : Type 0 where
+  pub as_many : length sites ≡ i
+  pub each : (j : ℕ) (site : Seen) → slice_get sites j ≡ Some site → StandsAt G (row C j) M site
+
+pub stand_none : (G : Rules) (C : List Set) (M : Marking) → StandBefore G C M 0 []
+stand_none G C M = record { as_many = refl; each = λ j site is. absurd (let below : j < 0 = slice_get_within [] j site is in omega arith) }
+
+pub stand_more : (G : Rules) (C : List Set) (M : Marking) (i : ℕ) (sites : List Seen) (site : Seen) → StandBefore G C M i sites → StandsAt G (row C i) M site
+    → StandBefore G C M (i + 1) (sites ++ site ∷ [])
+stand_more G C M i sites site before here = record {
+  as_many = length-append sites (site ∷ []) ∙ ap (λ n. n + 1) before.as_many;
+  each = λ j found is. elim (push_cases sites site j found is) [
+    | inl at ↦ subst (StandsAt G (row C j) M) (sym at.1) (subst (λ k. StandsAt G (row C k) M site) (sym (at.0 ∙ before.as_many)) here)
+    | inr old ↦ before.each j found old
+  ];
+}
+
+pub over_none : (n : ℕ) → AreOver n []
+over_none n = λ j site is. absurd (let below : j < 0 = slice_get_within [] j site is in omega arith)
+
+pub over_more : (n : ℕ) (sites : List Seen) (site : Seen) → AreOver n sites → IsOver n site → AreOver n (sites ++ site ∷ [])
+over_more n sites site before here = λ j found is. elim (push_cases sites site j found is) [
+  | inl at ↦ subst (IsOver n) (sym at.1) here
+  | inr old ↦ before j found old
+]
+
+-- whether a site is among those told
+abbrev pub is_among : List ℕ → ℕ → Bool
+is_among told j = list_any (λ i. eqb i j) told
+
+-- the sites told took in an execution, and the others stayed as they were
+pub record HeardBy (e : ℕ) (told : List ℕ) (before after : List Seen) : Type 0 where
+  pub as_many : length after ≡ length before
+  pub each : (j : ℕ) (site : Seen) → slice_get after j ≡ Some site
+      → (old : Seen) × (slice_get before j ≡ Some old) × (is_among told j ≡ true → Heard e old site) × (is_among told j ≡ false → site ≡ old)
+
+pub heard_none : (e : ℕ) (sites : List Seen) → HeardBy e [] sites sites
+heard_none e sites = record { as_many = refl; each = λ j site is. (site, is, (λ among. absurd (false≢true among)), (λ _. refl)) }
+
+-- the next site in the list, which wasn't told before
+module _ (e : ℕ) (list : List ℕ) (k : ℕ) (before after : List Seen) (so_far : HeardBy e (take k list) before after) (within : k < length list) (p : ℕ) (is : get_or list k 0 ≡ p) where
+  among_more : (j : ℕ) → is_among (take (k + 1) list) j ≡ (is_among (take k list) j || eqb p j)
+  among_more j = list_any_more (λ i. eqb i j) list k 0 within ∙ ap (λ i. is_among (take k list) j || eqb i j) is
+
+  pub heard_more : (old new : Seen) → is_among (take k list) p ≡ false → p < length after → slice_get after p ≡ Some old → Heard e old new → HeardBy e (take (k + 1) list) before (set after p new)
+  heard_more old new fresh below here heard = record {
+    as_many = length-set after p new ∙ so_far.as_many;
+    each = λ j site found. elim (set_cases after p new j site below found) [
+      | inl at ↦
+          let was = so_far.each p old here in
+          let fresh_here : Heard e was.0 site = subst (λ s. Heard e s site) (was.3 fresh) (subst (Heard e old) (sym at.1) heard) in (
+            was.0,
+            ap (slice_get before) at.0 ∙ was.1,
+            (λ _. fresh_here),
+            (λ among. absurd (false≢true (sym among ∙ among_more j ∙ ap (λ t. is_among (take k list) j || t) (eq-eqb p j (sym at.0)) ∙ or_true (is_among (take k list) j)))),
+          )
+      | inr other ↦
+          let was = so_far.each j site other.1 in
+          let same : is_among (take (k + 1) list) j ≡ is_among (take k list) j =
+          among_more j ∙ ap (λ t. is_among (take k list) j || t) (ne_eqb p j (λ e. other.0 (sym e))) ∙ or_false (is_among (take k list) j) in
+          (was.0, was.1, (λ among. was.2 (sym same ∙ among)), (λ among. was.3 (sym same ∙ among)))
+    ];
+  }
+
+-- a place in an ascending list isn't among those before it
+pub fresh_at : (list : List ℕ) (k : ℕ) → IsStrictlyIncreasing list → k < length list → is_among (take k list) (get_or list k 0) ≡ false
+fresh_at list k ascends within =
+    list_any_none (λ i. eqb i (get_or list k 0)) (take k list) (λ m d l.
+    let few : length (take k list) ≡ k = length-take-le k list (omega arith) in
+    let lower : get_or list m d < get_or list k d = AllPairs-from_increasing list ascends m k d (omega arith) within in
+    let value : get_or (take k list) m d ≡ get_or list m d = get_or-take k list m d (omega arith) in
+    let there : get_or list k d ≡ get_or list k 0 = get_or_default_zero list k d within in
+    ne_eqb (get_or (take k list) m d) (get_or list k 0) (λ same. let bad : get_or list m d ≡ get_or list k d = sym value ∙ same ∙ sym there in absurd (omega arith)))
+
+-- the participants are those whose alphabet has the event
+among_participants : (A : List Set) (e j : ℕ) (b : Bool) → hears A e j ≡ b → is_among (participants_of A e) j ≡ b
+among_participants A e j true h =
+    let c = hears_participant A e j h in
+    list_any_at (λ i. eqb i j) (participants_of A e) c.0 j c.1 (eq-eqb _ j c.2)
+among_participants A e j false h = false_from_ne_true _ (λ among.
+    let found = Any-from_list_any (λ i. eqb i j) (participants_of A e) among in
+    let same : found.1 ≡ j = eqb-true found.1 j found.4 in
+    let contains : Contains (participants_of A e) found.1 = (found.0, found.2, found.3) in
+    false≢true (sym h ∙ participant_hears A e j (subst (Contains (participants_of A e)) same contains)))
+
+-- the next participant: it is a site, which wasn't told before and hears of the event
+module _ (e k : ℕ) (list : List ℕ) (before after : List Seen) (so_far : HeardBy e (take k list) before after) (is : list ≡ participants_of (alphabets_in before) e)
+    (within : k < length list) (p : ℕ) (at : get_or list k 0 ≡ p) where
+  alphabets_many : length (alphabets_in before) ≡ length before
+  alphabets_many = length-map before (λ (s : Seen). s.projection.alphabet)
+
+  pub next_below : p < length after
+  next_below =
+      let below : get_or list k 0 < length (alphabets_in before) =
+      subst (λ l. All (λ i. i < length (alphabets_in before)) l) (sym is) (participants_below (alphabets_in before) e) k 0 within in
+      let many = alphabets_many in let same = so_far.as_many in omega arith
+
+  pub next_fresh : is_among (take k list) p ≡ false
+  next_fresh = subst (λ q. is_among (take k list) q ≡ false) at (fresh_at list k (subst (λ l. IsStrictlyIncreasing l) (sym is) (participants_ascend (alphabets_in before) e)) within)
+
+  pub next_hears : (site : Seen) → slice_get after p ≡ Some site → has site.projection.alphabet e ≡ true
+  next_hears site here =
+      let was = so_far.each p site here in
+      let contained : Contains list p = (k, within, get_or_default_zero list k p within ∙ at) in
+      let heard : hears (alphabets_in before) e p ≡ true = participant_hears (alphabets_in before) e p (subst (λ l. Contains l p) is contained) in
+      let alphabet : get_or (alphabets_in before) p [] ≡ was.0.projection.alphabet =
+      get_or-map (λ (s : Seen). s.projection.alphabet) before p was.0 [] (slice_get_within before p was.0 was.1) ∙ ap (λ (s : Seen). s.projection.alphabet) (get_or_from_slice_get before p was.0 was.0 was.1) in
+      ap (λ (s : Seen). has s.projection.alphabet e) (was.3 next_fresh) ∙ ap (λ a. has a e) (sym alphabet) ∙ heard
+
+-- a site that doesn't hear of an event stands after it where it stood
+pub deaf : (n e : ℕ) (site : Seen) → e < n → IsOver n site → has site.projection.alphabet e ≡ false → Heard e site site
+deaf n e site below over out = record {
+  projection = refl;
+  stepped = λ G S M at. unheard G S M site e at (over.alphabet ∙ sym over.own) (let room = over.own in omega arith) out;
+}
+
+told_or_deaf : (n e : ℕ) (old site : Seen) (among b : Bool) → has old.projection.alphabet e ≡ b → among ≡ b → (among ≡ true → Heard e old site) → (among ≡ false → site ≡ old)
+    → e < n → IsOver n old → Heard e old site
+told_or_deaf n e old site among true h is heard same below over = heard is
+told_or_deaf n e old site among false h is heard same below over = subst (Heard e old) (sym (same is)) (deaf n e old below over h)
+
+pub heard_all : (e k : ℕ) (list : List ℕ) (before after : List Seen) → length list ≤ k → list ≡ participants_of (alphabets_in before) e → AreOverMore e before
+    → HeardBy e (take k list) before after → HeardEach e before after
+heard_all e k list before after all is over so_far = record {
+  as_many = so_far.as_many;
+  each = λ j site found.
+      let was = so_far.each j site found in
+      let below = slice_get_within before j was.0 was.1 in
+      let alphabet : get_or (alphabets_in before) j [] ≡ was.0.projection.alphabet =
+      get_or-map (λ (s : Seen). s.projection.alphabet) before j was.0 [] below ∙ ap (λ (s : Seen). s.projection.alphabet) (get_or_from_slice_get before j was.0 was.0 was.1) in
+      let among : (b : Bool) → has was.0.projection.alphabet e ≡ b → is_among (take k list) j ≡ b =
+      λ b h. ap (λ l. is_among l j) (take_all k list all ∙ is) ∙ among_participants (alphabets_in before) e j b (ap (λ s. has s e) alphabet ∙ h) in
+      (was.0, was.1, told_or_deaf over.0 e was.0 site (is_among (take k list) j) (has was.0.projection.alphabet e) refl (among (has was.0.projection.alphabet e) refl) was.2 was.3 over.1 (over.2 j was.0 was.1));
+}
+
+pub heard_stand : (G : Rules) (C : List Set) (M : Marking) (e : ℕ) (before after : List Seen) → HeardEach e before after → AllStand G C M before → AllStand G C (step G M e) after
+heard_stand G C M e before after heard stand = record {
+  as_many = heard.as_many ∙ stand.as_many;
+  each = λ j site is. let was = heard.each j site is in was.2.stepped G (row C j) M (stand.each j was.0 was.1);
+}
+
+pub heard_over : (n e : ℕ) (before after : List Seen) → HeardEach e before after → AreOver n before → AreOver n after
+heard_over n e before after heard over = λ j site is.
+    let was = heard.each j site is in let same = was.2.projection in let old = over j was.0 was.1 in
+    record { own = ap (λ P. length P.own) same ∙ old.own; alphabet = ap (λ P. length P.alphabet) same ∙ old.alphabet }
+
+site_at : (sites : List Seen) (j : ℕ) → j < length sites → (site : Seen) × (slice_get sites j ≡ Some site)
+site_at [] j l = absurd (omega arith)
+site_at (first ∷ sites) j l = (get_or (first ∷ sites) j first, slice_get-get_or (first ∷ sites) j first l)
+
+alphabet_room : (n : ℕ) (sites : List Seen) → AreOver n sites → (k : ℕ) (d : Set) → k < length (alphabets_in sites) → length (get_or (alphabets_in sites) k d) ≡ n
+alphabet_room n sites over k d l =
+    let within : k < length sites = (let many = length-map sites (λ (s : Seen). s.projection.alphabet) in omega arith) in
+    let site = site_at sites k within in
+    ap (λ a. length a) (get_or-map (λ (s : Seen). s.projection.alphabet) sites k site.0 d within)
+    ∙ ap (λ (s : Seen). length s.projection.alphabet) (get_or_from_slice_get sites k site.0 site.0 site.1) ∙ (over k site.0 site.1).alphabet
+
+-- the alphabets of the sites of a cover make a network over its atoms
+pub network_of : (n : ℕ) (sites : List Seen) → AreOver n sites → 1 ≤ length sites → length sites ≤ 64 → IsNetwork (alphabets_in sites) × (atoms_of (alphabets_in sites) ≡ n)
+network_of n sites over some most =
+    let many = length-map sites (λ (s : Seen). s.projection.alphabet) in
+    let first : atoms_of (alphabets_in sites) ≡ n = alphabet_room n sites over 0 [] (omega arith) in (
+      record { some_site = omega arith; most_sites = omega arith; rooms = λ k d l. alphabet_room n sites over k d l ∙ sym first },
+      first,
+    )
+
+-- the alphabets stay
+pub heard_alphabets : (e : ℕ) (before after : List Seen) → HeardEach e before after → alphabets_in after ≡ alphabets_in before
+heard_alphabets e before after heard =
+    let many_after = length-map after (λ (s : Seen). s.projection.alphabet) in let many_before = length-map before (λ (s : Seen). s.projection.alphabet) in
+    ext_get_or [] (alphabets_in after) (alphabets_in before) (many_after ∙ heard.as_many ∙ sym many_before) (λ j l.
+    let within : j < length after = omega arith in
+    let site = site_at after j within in
+    let was = heard.each j site.0 site.1 in
+    get_or-map (λ (s : Seen). s.projection.alphabet) after j site.0 [] within ∙ ap (λ (s : Seen). s.projection.alphabet) (get_or_from_slice_get after j site.0 site.0 site.1)
+    ∙ ap (λ P. P.alphabet) was.2.projection
+    ∙ sym (get_or-map (λ (s : Seen). s.projection.alphabet) before j was.0 [] (slice_get_within before j was.0 was.1) ∙ ap (λ (s : Seen). s.projection.alphabet) (get_or_from_slice_get before j was.0 was.0 was.1)))
+
+-- ---- what the sites tell together
+
+pub marks_are : (G : Rules) (C : List Set) (M : Marking) (sites : List Seen) → AllStand G C M sites → map (λ (site : Seen). site.mark) sites ≡ marks_at G C M
+marks_are G [] M [] stand = refl
+marks_are G (S ∷ C) M [] stand = absurd (let room = stand.as_many in omega arith)
+marks_are G C M (first ∷ sites) stand =
+    ext_get_or (project G [] M) (map (λ (site : Seen). site.mark) (first ∷ sites)) (marks_at G C M)
+    (length-map (first ∷ sites) (λ (site : Seen). site.mark) ∙ stand.as_many ∙ sym (length-map C (λ S. project G S M)))
+    (λ i l.
+    let below : i < length (first ∷ sites) = (let len = length-map (first ∷ sites) (λ (site : Seen). site.mark) in omega arith) in
+    let within : i < length C = (let len = stand.as_many in omega arith) in
+    get_or-map (λ (site : Seen). site.mark) (first ∷ sites) i first (project G [] M) below
+    ∙ (stand.each i (get_or (first ∷ sites) i first) (slice_get-get_or (first ∷ sites) i first below)).mark
+    ∙ sym (get_or-map (λ S. project G S M) C i [] (project G [] M) within))
+
+pub waits_none : (n : ℕ) (C : List Set) (M : Marking) → None ≡ least n (waits_in (take 0 C) M)
+waits_none n C M = sym (least-none_from n (waits_in (take 0 C) M) (λ j below. refl))
+
+pub waits_more : (G : Rules) (C : List Set) (M : Marking) (i : ℕ) (first own : Option ℕ) → i < length C → first ≡ least G.atoms (waits_in (take i C) M)
+    → own ≡ owned_waits G (row C i) M → lesser first own ≡ least G.atoms (waits_in (take (i + 1) C) M)
+waits_more G C M i first own within before here =
+    ap (λ o. lesser o own) before ∙ ap (lesser (least G.atoms (waits_in (take i C) M))) here
+    ∙ lesser-least G.atoms (waits_in (take i C) M) (λ a. has (row C i) a && (has M.included a && has M.pending a))
+    ∙ least-ext G.atoms _ _ (λ a below.
+    both (list_any (λ set. has set a) (take i C)) (has (row C i) a) (has M.included a && has M.pending a)
+    ∙ ap (λ t. t && (has M.included a && has M.pending a)) (sym (list_any_more (λ set. has set a) C i [] within)))
+  where
+    both : (x y z : Bool) → ((x && z) || (y && z)) ≡ ((x || y) && z)
+    both true true true = refl
+    both true true false = refl
+    both true false true = refl
+    both true false false = refl
+    both false y z = refl
+
+-- all the sites
+pub waits_all : (G : Rules) (C : List Set) (M : Marking) (i : ℕ) (first : Option ℕ) → length C ≤ i → first ≡ least G.atoms (waits_in (take i C) M) → first ≡ least G.atoms (waits_in C M)
+waits_all G C M i first all is = is ∙ ap (λ D. least G.atoms (waits_in D M)) (take_all i C all)
+
+-- where the owned sets cover all atoms, these are all that wait
+pub waits_covered : (G : Rules) (C : List Set) (M : Marking) → IsCovered G C → least G.atoms (waits_in C M) ≡ waits G.atoms M
+waits_covered G C M covers = least-ext G.atoms (waits_in C M) (λ a. has M.included a && has M.pending a) (λ a below. ap (λ t. t && (has M.included a && has M.pending a)) (covers a below))

@@ -1,0 +1,263 @@
+ghost use Rattle.std.specs.Prelude.{◌≡◌, ◌<◌, List, length, map, IfOk};
+ghost use Rattle.std.specs.List.{All};
+ghost use Rattle.dcr_set.specs.Least.{least};
+ghost use Rattle.dcr_set.specs.EventSet.{Set};
+ghost use Rattle.dcr_graph.specs.Rules.{Rules};
+ghost use Rattle.dcr_graph.specs.declared.marking.Marking.{Marking as Marks};
+ghost use Rattle.dcr_graph.specs.GraphValue.{rules_of};
+ghost use Rattle.dcr_graph.specs.Projection.{HasRoom};
+ghost use Rattle.dcr_proj.specs.NetworkValue.{participants_of};
+ghost use Rattle.dcr_laws.specs.AtSites.{lesser as lesser_of};
+ghost use Rattle.dcr_run.specs.SitesModel.{alphabets_in};
+ghost use Rattle.dcr_run.specs.Engine.{AllStand, AreOver, AreOverMore, HeardEach, waits_in, told_by};
+
+use dcr_graph::{Cause, Graph, Marking, SiteMark};
+use dcr_journal::{Call, MarkList, Outcome};
+use dcr_proj::{Cover, Network, project};
+use dcr_set::{EventId, EventSet, NoMemory, SiteId};
+use dcr_site::{Decision, Site};
+use std::alloc::Global;
+use std::marker::Model;
+
+/// The sites of a run, in order. Contracts see them as `Engine`; what they say of a graph holds where the
+/// sites stand together at a marking of that graph (`AllStand`).
+#[derive(Drop)]
+pub struct Sites {
+    network: Network,
+    members: Vec<Site>,
+}
+
+impl Model for Sites {
+    ghost use Rattle.dcr_run.specs.Engine.{Engine};
+
+    ghost Value = { Engine };
+
+    ghost use Rattle.dcr_run.specs.SitesModel.{engine_of, AreInNetwork};
+
+    ghost view = { engine_of };
+
+    ghost invariant = { AreInNetwork };
+}
+
+impl Sites {
+    ghost use Rattle.std.specs.Prelude.{◌≡◌, ◌<◌, List, length, IfOk, OnOk};
+    ghost use Rattle.std.specs.List.{All};
+    ghost use Rattle.dcr_set.specs.EventSet.{Set};
+    ghost use Rattle.dcr_graph.specs.Rules.{Rules};
+    ghost use Rattle.dcr_graph.specs.Step.{step};
+    ghost use Rattle.dcr_graph.specs.Cause.{waits};
+    ghost use Rattle.dcr_graph.specs.GraphValue.{rules_of};
+    ghost use Rattle.dcr_graph.specs.Projection.{HasRoom};
+    ghost use Rattle.dcr_graph.specs.declared.marking.Marking.{Marking as Marks};
+    ghost use Rattle.dcr_journal.specs.Answer.{answer};
+    ghost use Rattle.dcr_journal.specs.Run.{IsInRange, stepped_by, marks_at};
+    ghost use Rattle.dcr_laws.specs.AtSites.{IsCovered};
+    ghost use Rattle.dcr_run.specs.Engine.{AllStand};
+
+    /// The sites of the cover, which is one of the graph's atoms, at the opening marking.
+    pub fn open(
+        alloc: Global,
+        graph: &Graph,
+        cover: &Cover,
+        opening: &Marking,
+    ) -> Result<Sites, NoMemory>
+        requires rooms { All (λ set. length set ≡ length graph.now.names) cover.now.owned }
+        requires opening { HasRoom (length graph.now.names) opening.now }
+        ensures atoms { IfOk result (λ engine. engine.atoms ≡ length graph.now.names) }
+        ensures stand { IfOk result (λ engine. AllStand (rules_of graph.now) cover.now.owned opening.now engine.sites) }
+        ensures covers { OnOk result (IsCovered (rules_of graph.now) cover.now.owned) }
+    {
+        let opened = open_each(alloc, graph, cover.owned_sets(), opening)?;
+        let network = Network::new(alloc, opened.alphabets)?;
+        Ok(Sites {
+            network,
+            members: opened.members,
+        })
+    }
+
+    /// What the call is answered: an execution, a look and the question what is enabled by the site that is
+    /// asked, from its own marks, and the question whether the marking is accepting by all sites together. An
+    /// execution that is done is applied at every site whose alphabet has the event. Nothing else changes a mark.
+    pub fn call(&mut self, call: Call) -> Outcome
+        requires { IsInRange (length self.old.sites) self.old.atoms call }
+        ensures atoms { self.new.atoms ≡ self.old.atoms }
+        ensures as_many { length self.new.sites ≡ length self.old.sites }
+        ensures answered { (G : Rules) (C : List Set) (M : Marks) → IsCovered G C → AllStand G C M self.old.sites → result ≡ answer G C M call }
+        ensures stepped { (G : Rules) (C : List Set) (M : Marks) → AllStand G C M self.old.sites
+            → AllStand G C (stepped_by G M call result) self.new.sites }
+    {
+        match call {
+            Call::Exec(site, e) => self.exec(site, e),
+            Call::Look(site) => self.look(site),
+            Call::Enabled(site) => self.enabled(site),
+            Call::Accepting => self.accepting(),
+        }
+    }
+
+    // An execution of the event, asked for at the site.
+    fn exec(&mut self, site: SiteId, e: EventId) -> Outcome
+        requires site { site < length self.old.sites }
+        requires event { e < self.old.atoms }
+        ensures atoms { self.new.atoms ≡ self.old.atoms }
+        ensures as_many { length self.new.sites ≡ length self.old.sites }
+        ensures answered { (G : Rules) (C : List Set) (M : Marks) → AllStand G C M self.old.sites → result ≡ answer G C M (Call.Exec site e) }
+        ensures stepped { (G : Rules) (C : List Set) (M : Marks) → AllStand G C M self.old.sites
+            → AllStand G C (stepped_by G M (Call.Exec site e) result) self.new.sites }
+    {
+        let outcome = self.decide(site, e);
+        if let Outcome::Done = outcome {
+            self.apply(e);
+        }
+        outcome
+    }
+
+    // What the site answers to an execution of the event.
+    fn decide(&self, site: SiteId, e: EventId) -> Outcome
+        requires site { site < length self.now.sites }
+        requires event { e < self.now.atoms }
+        ensures { (G : Rules) (C : List Set) (M : Marks) → AllStand G C M self.now.sites → result ≡ answer G C M (Call.Exec site e) }
+    {
+        outcome_of(self.members[usize::from(site.0)].decide(e))
+    }
+
+    // The marks of the site.
+    fn look(&self, site: SiteId) -> Outcome
+        requires { site < length self.now.sites }
+        ensures { (G : Rules) (C : List Set) (M : Marks) → AllStand G C M self.now.sites → result ≡ answer G C M (Call.Look site) }
+    {
+        Outcome::Marks(self.members[usize::from(site.0)].mark())
+    }
+
+    // The events of the site that may be executed.
+    fn enabled(&self, site: SiteId) -> Outcome
+        requires { site < length self.now.sites }
+        ensures { (G : Rules) (C : List Set) (M : Marks) → AllStand G C M self.now.sites → result ≡ answer G C M (Call.Enabled site) }
+    {
+        Outcome::Can(self.members[usize::from(site.0)].can())
+    }
+
+    // Whether no atom is included and pending, or the least that is.
+    fn accepting(&self) -> Outcome
+        ensures { (G : Rules) (C : List Set) (M : Marks) → IsCovered G C → AllStand G C M self.now.sites → result ≡ answer G C M Call.Accepting }
+    {
+        match self.first_waiting() {
+            Some(e) => Outcome::Waits(e),
+            None => Outcome::AllDone,
+        }
+    }
+
+    // Applies an execution at the sites whose alphabet has the event, and at no other.
+    fn apply(&mut self, e: EventId)
+        requires { e < self.old.atoms }
+        ensures atoms { self.new.atoms ≡ self.old.atoms }
+        ensures as_many { length self.new.sites ≡ length self.old.sites }
+        ensures stepped { (G : Rules) (C : List Set) (M : Marks) → AllStand G C M self.old.sites → AllStand G C (step G M e) self.new.sites }
+    {
+        let participants = self.network.participants(e);
+        hear_each(&mut self.members, participants, e);
+    }
+
+    /// The marks of each site.
+    pub fn marks(&self, alloc: Global) -> Result<MarkList, NoMemory>
+        ensures { (G : Rules) (C : List Set) (M : Marks) → AllStand G C M self.now.sites → IfOk result (λ marks. marks ≡ marks_at G C M) }
+    {
+        let marks = marks_of_each(alloc, &self.members)?;
+        Ok(MarkList::new(marks))
+    }
+
+    /// The least atom that is included and pending, of the atoms that a site owns.
+    pub fn first_waiting(&self) -> Option<EventId>
+        ensures { (G : Rules) (C : List Set) (M : Marks) → IsCovered G C → AllStand G C M self.now.sites → result ≡ waits G.atoms M }
+    {
+        first_of_each(&self.members)
+    }
+}
+
+// Sites that were opened, and beside them their alphabets.
+#[derive(Drop)]
+struct Opened {
+    alphabets: Vec<EventSet>,
+    members: Vec<Site>,
+}
+
+// A site for each owned set.
+fn open_each(
+    alloc: Global,
+    graph: &Graph,
+    owned: &[EventSet],
+    opening: &Marking,
+) -> Result<Opened, NoMemory>
+    requires owned { All (λ set. length set ≡ length graph.now.names) owned.now }
+    requires opening { HasRoom (length graph.now.names) opening.now }
+    ensures over { IfOk result (λ opened. AreOver (length graph.now.names) opened.members.items) }
+    ensures stand { IfOk result (λ opened. AllStand (rules_of graph.now) owned.now opening.now opened.members.items) }
+    ensures alphabets { IfOk result (λ opened. opened.alphabets.items ≡ alphabets_in opened.members.items) }
+{
+    let mut alphabets = Vec::with_capacity(alloc, owned.len())?;
+    let mut members = Vec::with_capacity(alloc, owned.len())?;
+    for own in owned {
+        let projection = project(alloc, graph, own)?;
+        let heard = projection.alphabet().copy();
+        alphabets.push(heard)?;
+        members.push(Site::open(projection, opening))?;
+    }
+    Ok(Opened { alphabets, members })
+}
+
+// Applies an execution at the participants.
+fn hear_each(members: &mut [Site], participants: &[SiteId], e: EventId)
+    requires over { AreOverMore e members.old }
+    requires all { participants.now ≡ participants_of (alphabets_in members.old) e }
+    ensures { HeardEach e members.old members.new }
+{
+    for participant in participants {
+        let member = &mut members[usize::from(participant.0)];
+        member.apply(e);
+    }
+}
+
+// The marks of each site.
+fn marks_of_each(alloc: Global, members: &[Site]) -> Result<Vec<SiteMark>, NoMemory>
+    ensures { IfOk result (λ marks. marks.items ≡ map (λ site. site.mark) members.now) }
+{
+    let mut marks = Vec::with_capacity(alloc, members.len())?;
+    for member in members {
+        marks.push(member.mark())?;
+    }
+    Ok(marks)
+}
+
+// The least atom for which a site waits.
+fn first_of_each(members: &[Site]) -> Option<EventId>
+    ensures { (G : Rules) (C : List Set) (M : Marks) → AllStand G C M members.now → result ≡ least G.atoms (waits_in C M) }
+{
+    let mut first = None;
+    for member in members {
+        first = lesser(first, member.first_waiting());
+    }
+    first
+}
+
+// The lesser of two events, where there are two.
+fn lesser(one: Option<EventId>, other: Option<EventId>) -> Option<EventId>
+    ensures { result ≡ lesser_of one other }
+{
+    match (one, other) {
+        (Some(a), Some(b)) => Some(if b < a { b } else { a }),
+        (None, found) => found,
+        (found, None) => found,
+    }
+}
+
+// The outcome that tells a site's decision, where the event is executed if it is enabled.
+fn outcome_of(decision: Decision) -> Outcome
+    ensures { result ≡ told_by decision }
+{
+    match decision {
+        Decision::NotHere => Outcome::NotHere,
+        Decision::Enabled => Outcome::Done,
+        Decision::Blocked(Cause::Excluded) => Outcome::Excluded,
+        Decision::Blocked(Cause::Condition(EventId(c))) => Outcome::Condition(EventId(c)),
+        Decision::Blocked(Cause::Milestone(EventId(m))) => Outcome::Milestone(EventId(m)),
+    }
+}
