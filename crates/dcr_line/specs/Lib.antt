@@ -1,0 +1,9 @@
+pub mod Line
+pub mod Fits
+pub mod Grown
+pub mod Known
+pub mod PiecesModel
+pub mod Words
+pub mod CallLine
+pub mod MarkLine
+pub mod EntryLine

@@ -1,0 +1,17 @@
+//! The lines that calls, marks and entries are written as: from values to texts, and back.
+#![tactic(auto)]
+
+mod call;
+mod entry;
+pub mod laws;
+mod mark;
+mod pieces;
+mod put;
+#[cfg(test)]
+mod tests;
+mod write;
+
+pub use call::read_call;
+pub use entry::read_entry;
+pub use mark::read_mark;
+pub use write::{write_call, write_entry, write_event, write_mark, write_marking};

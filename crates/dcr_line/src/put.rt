@@ -1,0 +1,141 @@
+// The words of lines, added to a text. Where memory runs out, what was added stays: the callers take it away.
+ghost use Rattle.std.specs.Prelude.{◌≡◌, ◌<◌, ◌++◌, length, codes, decimal, OnOk};
+ghost use Rattle.std.specs.List.{All};
+ghost use Rattle.dcr_journal.specs.Run.{IsInRange};
+ghost use Rattle.dcr_line.specs.Line.{call_text, comma_names, list_text, mark_text, outcome_text};
+ghost use Rattle.dcr_line.specs.Fits.{FitsAtoms, FitsOutcome};
+ghost use Rattle.dcr_line.specs.Grown.{StartsWith};
+
+use dcr_graph::{Graph, Name};
+use dcr_journal::{Call, Outcome};
+use dcr_proj::Cover;
+use dcr_set::{EventIter, EventSet, NoMemory};
+use dcr_text::decimal;
+
+/// Adds these bytes.
+pub(crate) fn put(text: &[u8], out: &mut Vec<u8>) -> Result<(), NoMemory>
+    ensures added { OnOk result (out.new.items ≡ out.old.items ++ text.now) }
+    ensures kept { StartsWith out.old.items out.new.items }
+{
+    out.extend_from_slice(text)?;
+    Ok(())
+}
+
+/// Adds a number and a space.
+pub(crate) fn put_number(n: u32, out: &mut Vec<u8>) -> Result<(), NoMemory>
+    ensures added { OnOk result (out.new.items ≡ out.old.items ++ (decimal n ++ codes " ")) }
+    ensures kept { StartsWith out.old.items out.new.items }
+{
+    decimal(u64::from(n), out)?;
+    put(b" ", out)
+}
+
+/// Adds a word and a name behind it.
+pub(crate) fn put_named(word: &[u8], name: &Name, out: &mut Vec<u8>) -> Result<(), NoMemory>
+    ensures added { OnOk result (out.new.items ≡ out.old.items ++ (word.now ++ name.now)) }
+    ensures kept { StartsWith out.old.items out.new.items }
+{
+    put(word, out)?;
+    put(name.text().as_bytes(), out)
+}
+
+/// Adds a word and the list of a set behind it.
+fn put_list(word: &[u8], set: &EventSet, graph: &Graph, out: &mut Vec<u8>) -> Result<(), NoMemory>
+    requires { length set.now ≡ length graph.now.names }
+    ensures added { OnOk result (out.new.items
+        ≡ out.old.items ++ (word.now ++ list_text graph.now.names set.now)) }
+    ensures kept { StartsWith out.old.items out.new.items }
+{
+    let mut events = set.iter();
+    match events.next() {
+        None => {
+            put(word, out)?;
+            put(b"-", out)
+        }
+        Some(first) => {
+            put_named(word, graph.name(first), out)?;
+            put_more(events, graph, out)
+        }
+    }
+}
+
+/// Adds the names of these events, each behind a comma.
+fn put_more(events: EventIter<'_>, graph: &Graph, out: &mut Vec<u8>) -> Result<(), NoMemory>
+    requires { All (λ e. e < length graph.now.names) events }
+    ensures added { OnOk result (out.new.items
+        ≡ out.old.items ++ comma_names graph.now.names events.entry) }
+    ensures kept { StartsWith out.old.items out.new.items }
+{
+    for e in events {
+        put_named(b",", graph.name(e), out)?;
+    }
+    Ok(())
+}
+
+/// Adds the three sets of a marking, each behind its word.
+pub(crate) fn put_sets(
+    executed: &EventSet,
+    pending: &EventSet,
+    included: &EventSet,
+    graph: &Graph,
+    out: &mut Vec<u8>,
+) -> Result<(), NoMemory>
+    requires { FitsAtoms (length graph.now.names) executed.now pending.now included.now }
+    ensures added { OnOk result (out.new.items
+        ≡ out.old.items ++ mark_text graph.now.names executed.now pending.now included.now) }
+    ensures kept { StartsWith out.old.items out.new.items }
+{
+    put_list(b"executed ", executed, graph, out)?;
+    put_list(b" pending ", pending, graph, out)?;
+    put_list(b" included ", included, graph, out)
+}
+
+/// Adds a call.
+pub(crate) fn put_call(
+    call: &Call,
+    graph: &Graph,
+    cover: &Cover,
+    out: &mut Vec<u8>,
+) -> Result<(), NoMemory>
+    requires { IsInRange (length cover.now.names) (length graph.now.names) call.now }
+    ensures added { OnOk result (out.new.items
+        ≡ out.old.items ++ call_text cover.now.names graph.now.names call.now) }
+    ensures kept { StartsWith out.old.items out.new.items }
+{
+    match *call {
+        Call::Exec(i, e) => {
+            put_named(b"exec ", cover.name(i), out)?;
+            put_named(b" ", graph.name(e), out)
+        }
+        Call::Look(i) => put_named(b"look ", cover.name(i), out),
+        Call::Enabled(i) => put_named(b"enabled ", cover.name(i), out),
+        Call::Accepting => put(b"accepting", out),
+    }
+}
+
+/// Adds an outcome.
+pub(crate) fn put_outcome(
+    outcome: &Outcome,
+    graph: &Graph,
+    out: &mut Vec<u8>,
+) -> Result<(), NoMemory>
+    requires { FitsOutcome (length graph.now.names) outcome.now }
+    ensures added { OnOk result (out.new.items
+        ≡ out.old.items ++ outcome_text graph.now.names outcome.now) }
+    ensures kept { StartsWith out.old.items out.new.items }
+{
+    match outcome {
+        Outcome::Done => put(b"done", out),
+        Outcome::NotHere => put(b"not-here", out),
+        Outcome::Excluded => put(b"excluded", out),
+        Outcome::Condition(e) => put_named(b"condition ", graph.name(*e), out),
+        Outcome::Milestone(e) => put_named(b"milestone ", graph.name(*e), out),
+        Outcome::Faulted => put(b"faulted", out),
+        Outcome::Marks(mark) => {
+            put_sets(&mark.executed, &mark.pending, &mark.included, graph, out)
+        }
+        Outcome::Can(set) => put_list(b"can ", set, graph, out),
+        Outcome::AllDone => put(b"yes", out),
+        Outcome::Waits(e) => put_named(b"waits ", graph.name(*e), out),
+    }
+}
