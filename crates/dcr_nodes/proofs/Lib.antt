@@ -1,0 +1,5 @@
+pub mod StageLemmas
+pub mod NameLemmas
+pub mod NodeLemmas
+pub mod KindLemmas
+pub mod LawLemmas

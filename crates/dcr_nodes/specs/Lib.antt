@@ -1,0 +1,6 @@
+pub mod Nodes
+pub mod Kinds
+pub mod Opening
+pub mod Words
+pub mod Laws
+pub mod NamesModel

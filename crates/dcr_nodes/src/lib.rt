@@ -1,0 +1,15 @@
+//! The nodes of a case file: names, parents, marks and the ends of relations, read from what is written within the
+//! limits, or the first of them that is wrong.
+#![tactic(auto)]
+
+mod laws;
+mod names;
+mod nodes;
+mod opening;
+mod relations;
+#[cfg(test)]
+mod tests;
+mod tree;
+
+pub use laws::{nodes_are_the_formats, shaped_files_have_their_kinds};
+pub use nodes::{Nodes, read_nodes};
