@@ -1,0 +1,4 @@
+mod PlainLemmas
+mod LineLemmas
+mod Utf8Lemmas
+mod ListLemmas

@@ -1,0 +1,3 @@
+pub mod GraphText
+pub mod CoverText
+pub mod Laws

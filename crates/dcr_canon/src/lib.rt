@@ -1,0 +1,16 @@
+//! The canonical texts of a nested graph and of a cover: the compact JSON texts that a report begins with.
+#![tactic(auto)]
+
+mod cover;
+mod events;
+mod graph;
+mod laws;
+mod relations;
+#[cfg(test)]
+mod tests;
+
+pub use cover::cover_text;
+pub use graph::graph_text;
+pub use laws::{
+    canonical_texts_are_json, canonical_texts_have_no_line_end, canonical_texts_read_back,
+};
