@@ -1,8 +1,7 @@
-pub mod EachLemmas
-pub mod NameLemmas
 pub mod JsonLemmas
-pub mod RefusingLemmas
-pub mod OpeningLemmas
-pub mod FormLemmas
-pub mod CallLemmas
 pub mod JudgeLemmas
+pub mod LendLemmas
+pub mod KnownLemmas
+pub mod ClashLemmas
+pub mod CallsLemmas
+pub mod RefusalLemmas

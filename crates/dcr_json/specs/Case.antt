@@ -1,20 +1,31 @@
 -- The case that bytes spell, or which refusal comes first.
 use Rattle.std.specs.Prelude.{ℕ, List, length, Result, Ok, Err, nat_le, if◌then◌else◌}
+use Rattle.serde_json.specs.Data.{Data}
 use Rattle.dcr_size.specs.Laws.{json_in}
-use Rattle.dcr_json.specs.Form.{form_in}
-use Rattle.dcr_json.specs.Refusing.{◌>>=◌, found_or}
+use Rattle.dcr_shape.specs.Case.{shape_in}
+use Rattle.dcr_shape.specs.Stages.{◌>>=◌}
+use Rattle.dcr_limit.specs.Limits.{limits_in}
+use Rattle.dcr_nodes.specs.Nodes.{nodes_in}
+use Rattle.dcr_json.specs.Refusing.{found_or, lifted}
 use Rattle.dcr_json.specs.Judged.{Spelled, judged}
 use Rattle.dcr_json.specs.declared.case.CaseStop.{CaseStop}
-use Rattle.dcr_json.specs.declared.case.CaseStop.TheVariants.{TooLong, NotJson, NotBuilt}
+use Rattle.dcr_json.specs.declared.case.CaseStop.TheVariants.{TooLong, NotJson}
 
 -- no more than 16,777,216 bytes
 abbrev pub within : List ℕ → Result (List ℕ) CaseStop
 within bytes = if nat_le (length bytes) 16777216 then Ok bytes else Err TooLong
 
--- the case, or the first refusal: too many bytes; no JSON; JSON of another form; what a form is refused for
+-- what a JSON value spells: its shape, then the limits, then the nested graph, then the rest
+unfoldable pub value_in : Data → Result Spelled CaseStop
+value_in d = do
+  written ← lifted (shape_in d)
+  kept ← lifted (limits_in written)
+  nodes ← lifted (nodes_in written)
+  judged written nodes
+
+-- the case, or the first refusal
 unfoldable pub case_in : List ℕ → Result Spelled CaseStop
 case_in bytes = do
   text ← within bytes
   value ← found_or NotJson (json_in text)
-  form ← found_or NotBuilt (form_in value)
-  judged form
+  value_in value

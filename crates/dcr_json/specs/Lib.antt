@@ -1,10 +1,6 @@
-pub mod Reading
-pub mod Texts
-pub mod Form
 pub mod Refusing
-pub mod CallLine
 pub mod Judged
 pub mod Case
-pub mod Steps
-pub mod Stops
 pub mod Built
+pub mod Lent
+pub mod Refusals

@@ -1,7 +1,11 @@
-ghost use Rattle.dcr_json.specs.CallLine.{CallLinesAreRead};
+ghost use Rattle.dcr_json.specs.Refusals.{CasesAreTheFormats, OneOfTheTwo, RefusalsAreTheFormats};
 
-/// The texts that are read as the call of an event at a site are exactly `exec`, the site's name and the
-/// event's name, with one space between: of names that are names and distinct, and both ways.
-pub fn call_lines_are_read()
-    ensures { CallLinesAreRead }
+/// Bytes are refused exactly where nothing that is tried before is wrong and this is, in the words of the format, by
+/// the least index; want of memory is never among it. They are a case exactly where nothing is wrong and the case is
+/// what is written: the nodes, the cover, the opening marking, and the calls whose texts stand in the sessions. And
+/// one of the two holds.
+pub fn when_each_refusal_comes()
+    ensures refusals { RefusalsAreTheFormats }
+    ensures cases { CasesAreTheFormats }
+    ensures either { OneOfTheTwo }
 {}

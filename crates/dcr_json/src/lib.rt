@@ -3,20 +3,19 @@
 
 mod calls;
 mod case;
-mod events;
-mod form;
 mod judge;
 mod laws;
-mod names;
-mod opening;
+#[cfg(test)]
+mod limit_tests;
 mod read;
-mod relations;
-mod sessions;
+mod session_list;
 mod sites;
 #[cfg(test)]
 mod tests;
-mod value;
 
 pub use case::{Case, CaseStop};
-pub use laws::call_lines_are_read;
+pub use dcr_canon::{cover_text, graph_text};
+pub use dcr_shape::{LimitKind, Part};
+pub use laws::when_each_refusal_comes;
 pub use read::read_case;
+pub use session_list::SessionList;

@@ -1,15 +1,16 @@
-ghost use Rattle.std.specs.Prelude.{◌≡◌, ◌≤◌, length, IfOk};
+ghost use Rattle.std.specs.Prelude.{◌≡◌, ◌≤◌, length, IfOk, OnOk};
 ghost use Rattle.serde_json.specs.View.{view};
 ghost use Rattle.dcr_size.specs.Laws.{json_in};
 ghost use Rattle.dcr_size.specs.Size.{size};
 ghost use Rattle.dcr_json.specs.Built.{case_of, IsCase};
-ghost use Rattle.dcr_json.specs.Case.{case_in};
-ghost use Rattle.dcr_json.specs.Refusing.{Says};
-ghost use Rattle.dcr_json.specs.Steps.{GivesOr};
+ghost use Rattle.dcr_json.specs.Case.{case_in, value_in};
+ghost use Rattle.dcr_json.specs.Refusing.{Says, found_or};
 
-use crate::form::read_form;
 use crate::judge::judge;
 use crate::{Case, CaseStop};
+use dcr_limit::try_limits;
+use dcr_nodes::read_nodes;
+use dcr_shape::read_shape;
 use serde_json::Value;
 use std::alloc::Global;
 
@@ -21,14 +22,13 @@ const MAX_BYTES: usize = 16_777_216;
 #[tactic(auto, unfolding(crate::specs::Case::case_in))]
 pub fn read_case(alloc: Global, bytes: &[u8]) -> Result<Case, CaseStop>
     ensures says { Says case_of result (case_in bytes.now) }
-    ensures fits { IfOk result (λ case. IsCase (case_of case)) }
+    ensures fits { IfOk result IsCase }
 {
     if bytes.len() > MAX_BYTES {
         return Err(CaseStop::TooLong);
     }
     let value = read_json(alloc, bytes)?;
-    let form = read_form(alloc, &value)?;
-    let case = judge(alloc, form)?;
+    let case = read_value(alloc, &value)?;
     Ok(case)
 }
 
@@ -36,7 +36,7 @@ pub fn read_case(alloc: Global, bytes: &[u8]) -> Result<Case, CaseStop>
 #[tactic(auto, unfolding(dcr_size::specs::Laws::json_in))]
 fn read_json(alloc: Global, bytes: &[u8]) -> Result<Value, CaseStop>
     requires { length bytes.now ≤ 16777216 }
-    ensures json { GivesOr CaseStop.NotJson view result (json_in bytes.now) }
+    ensures json { Says view result (found_or CaseStop.NotJson (json_in bytes.now)) }
     ensures size { IfOk result (λ value. size (view value) ≤ 16777216) }
 {
     match Value::from_slice(alloc, bytes) {
@@ -48,4 +48,18 @@ fn read_json(alloc: Global, bytes: &[u8]) -> Result<Value, CaseStop>
             Err(CaseStop::NotJson)
         }
     }
+}
+
+// The case that a value spells.
+#[tactic(auto, unfolding(crate::specs::Case::value_in))]
+fn read_value(alloc: Global, value: &Value) -> Result<Case, CaseStop>
+    requires { size (view value.now) ≤ 16777216 }
+    ensures says { Says case_of result (value_in (view value.now)) }
+    ensures fits { IfOk result IsCase }
+{
+    let written = read_shape(value)?;
+    try_limits(alloc, &written)?;
+    let nodes = read_nodes(alloc, &written)?;
+    let case = judge(alloc, &written, nodes)?;
+    Ok(case)
 }

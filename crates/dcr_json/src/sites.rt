@@ -1,76 +1,96 @@
-ghost use Rattle.std.specs.Prelude.{◌≡◌, map, string_bytes};
-ghost use Rattle.serde_json.specs.Find.{as_str};
-ghost use Rattle.serde_json.specs.View.{view};
-ghost use Rattle.dcr_cover.specs.Steps.{written};
-ghost use Rattle.dcr_json.specs.Form.{cover_in, site_in};
-ghost use Rattle.dcr_json.specs.Reading.{each};
-ghost use Rattle.dcr_json.specs.Steps.{Gives};
-ghost use Rattle.dcr_json.specs.Texts.{texts_of};
+ghost use Rattle.std.specs.Prelude.{◌≡◌, ◌≢◌, ◌<◌, ◌≤◌, ◌^◌, length, map, All, IfOk, Err, ℕ};
+ghost use Rattle.dcr_nest.specs.FlatRelation.{IsFlattening};
+ghost use Rattle.dcr_json.specs.Judged.{by_cover, name_at, owners_in, texts_of};
+ghost use Rattle.dcr_json.specs.Lent.{texts_lent};
+ghost use Rattle.dcr_json.specs.Refusing.{Says};
 
 use crate::CaseStop;
-use crate::value::{elements, member, text};
-use dcr_cover::SiteText;
-use serde_json::Value;
+use dcr_cover::{AsSiteText, CoverStop, check_texts};
+use dcr_graph::Graph;
+use dcr_nest::Nested;
+use dcr_proj::Cover;
+use dcr_set::{EventId, NoMemory};
+use dcr_shape::{WrittenSite, WrittenSites};
 use std::alloc::Global;
 
-// The most sites of a cover.
-const MAX_SITES: usize = 16;
+// A site of a case file. It lends its texts to the check of a cover, so that none is copied.
+#[derive(Drop)]
+pub(crate) struct LentSite<'v> {
+    pub site: WrittenSite<'v>,
+}
 
-// The texts of the sites.
-#[tactic(auto, unfolding(crate::specs::Form::cover_in))]
-pub(crate) fn read_sites(alloc: Global, value: &Value) -> Result<Vec<SiteText>, CaseStop>
-    ensures { Gives (λ sites. map written sites.items) result (cover_in (view value.now)) }
-{
-    let sites = member(value, "cover")?;
-    let sites = elements(sites)?;
-    if sites.is_empty() || sites.len() > MAX_SITES {
-        return Err(CaseStop::NotBuilt);
+impl<'v> AsSiteText for LentSite<'v> {
+    ghost use Rattle.dcr_json.specs.Lent.{texts_lent as lent};
+
+    ghost written = { lent };
+
+    fn name(&self) -> &str {
+        self.site.name
     }
-    let sites = read_each(alloc, sites)?;
-    Ok(sites)
-}
 
-// Each site.
-fn read_each(alloc: Global, values: &[Value]) -> Result<Vec<SiteText>, CaseStop>
-    ensures { Gives (λ sites. map written sites.items) result (each site_in (map view values.now)) }
-{
-    let mut sites = Vec::new(alloc);
-    for value in values {
-        sites.push(read_site(alloc, value)?)?;
+    fn owned_len(&self) -> usize {
+        self.site.owned.len()
     }
-    Ok(sites)
-}
 
-// The text of a site, and the texts of what it owns.
-#[tactic(auto, unfolding(crate::specs::Form::site_in))]
-fn read_site(alloc: Global, value: &Value) -> Result<SiteText, CaseStop>
-    ensures { Gives written result (site_in (view value.now)) }
-{
-    let name = member(value, "site")?;
-    let name = text(name)?;
-    let events = member(value, "events")?;
-    let events = elements(events)?;
-    let owned = read_texts(alloc, events)?;
-    let name = String::from_str(alloc, name)?;
-    Ok(SiteText { name, owned })
-}
-
-// The text that each value is.
-fn read_texts(alloc: Global, values: &[Value]) -> Result<Vec<String>, CaseStop>
-    ensures { Gives texts_of result (each as_str (map view values.now)) }
-{
-    let mut texts = Vec::new(alloc);
-    for value in values {
-        texts.push(read_text(alloc, value)?)?;
+    fn owned_text(&self, j: usize) -> &str {
+        self.site.owned.get(j)
     }
-    Ok(texts)
 }
 
-// The text that a value is.
-fn read_text(alloc: Global, value: &Value) -> Result<String, CaseStop>
-    ensures { Gives string_bytes result (as_str (view value.now)) }
+// The cover that the sites mean, or the refusal of it.
+#[tactic(auto, unfolding(crate::specs::Judged::owners_in))]
+pub(crate) fn read_cover(
+    alloc: Global,
+    nested: &Nested,
+    graph: &Graph,
+    sites: &WrittenSites<'_>,
+) -> Result<Cover, CaseStop>
+    requires flat { IsFlattening nested.now graph.now }
+    requires some_site { 1 ≤ length sites.now }
+    requires most_sites { length sites.now ≤ 64 }
+    ensures says { Says (λ cover. cover) result (owners_in nested.now sites.now) }
+    ensures rooms { IfOk result (λ cover. All (λ set. length set ≡ length graph.now.names) cover.owned) }
 {
-    let text = text(value)?;
-    let copy = String::from_str(alloc, text)?;
-    Ok(copy)
+    let lent = lend(alloc, sites)?;
+    match check_texts(alloc, nested, graph, &lent) {
+        Ok(cover) => Ok(cover),
+        Err(stop) => Err(refused_cover(alloc, graph, stop)),
+    }
+}
+
+// The sites in a list.
+fn lend<'v>(alloc: Global, sites: &WrittenSites<'v>) -> Result<Vec<LentSite<'v>>, NoMemory>
+    ensures texts { IfOk result (λ lent. map texts_lent lent.items ≡ map texts_of sites.now) }
+    ensures few { IfOk result (λ lent. All (λ site. length (texts_lent site).1 < 2 ^ 32) lent.items) }
+{
+    let mut lent = Vec::with_capacity(alloc, sites.len())?;
+    for i in 0..sites.len() {
+        lent.push(LentSite { site: sites.get(i) })?;
+    }
+    Ok(lent)
+}
+
+// The refusal of a cover, with the name of an atom that no site owns.
+fn refused_cover(alloc: Global, graph: &Graph, stop: CoverStop) -> CaseStop
+    requires { (a : ℕ) → stop ≡ CoverStop.Uncovered a → a < length graph.now.names }
+    ensures refused { result ≢ CaseStop.NoMemory → by_cover graph.now.names (Err stop) ≡ Err result }
+    ensures no_memory { stop ≡ CoverStop.NoMemory → result ≡ CaseStop.NoMemory }
+{
+    match stop {
+        CoverStop::SiteName { i } => CaseStop::SiteName { i },
+        CoverStop::Owned { i, j } => CaseStop::Owned { i, j },
+        CoverStop::Uncovered { a: EventId(a) } => uncovered_of(alloc, graph, a),
+        CoverStop::NoMemory => CaseStop::NoMemory,
+    }
+}
+
+// The refusal of an atom that no site owns.
+fn uncovered_of(alloc: Global, graph: &Graph, a: u16) -> CaseStop
+    requires { a < length graph.now.names }
+    ensures { result ≢ CaseStop.NoMemory → result ≡ CaseStop.Uncovered (name_at graph.now.names a) }
+{
+    let Ok(a) = graph.name(EventId(a)).copy(alloc) else {
+        return CaseStop::NoMemory;
+    };
+    CaseStop::Uncovered { a }
 }

@@ -1,9 +1,8 @@
-use Rattle.std.proofs.Common.{◌≡◌, Ok, map, take}
-use Rattle.std.specs.Prelude.{string_bytes}
-use Rattle.dcr_json.specs.CallLine.{call_named}
-use Rattle.dcr_json.specs.Refusing.{each_from, found_or}
-use Rattle.dcr_json.specs.declared.case.CaseStop.TheVariants.{CallLine}
+use Rattle.std.proofs.Common.{◌≡◌, Ok, take}
+use Rattle.dcr_json.specs.Judged.{call_told}
+use Rattle.dcr_shape.specs.Stages.{each_from}
 use Rattle.dcr_json.proofs.calls.read_calls.Given as goal
 
+-- the calls before j
 abbrev pub invariant-loop-j : goal.invariant-loop-j
-invariant-loop-j l = each_from (λ j text. found_or (CallLine l.k j) (call_named l.cover.names l.graph.names text)) 0 (map string_bytes (take l.j l.texts)) ≡ Ok l.calls.items
+invariant-loop-j l = each_from (call_told l.cover.names l.graph.names l.k) 0 (take l.j l.texts) ≡ Ok l.calls.items

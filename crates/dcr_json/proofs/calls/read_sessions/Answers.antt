@@ -1,21 +1,23 @@
-use Rattle.std.proofs.Common.{◌≡◌, ◌≢◌, Ok, Err, map, sym, ap, ◌∙◌, arith, rules}
-use Rattle.std.specs.Prelude.{string_bytes}
+use Rattle.std.proofs.Common.{◌≡◌, ◌≢◌, Ok, Err, sym, ap, ◌∙◌, arith, rules}
+use Rattle.dcr_shape.specs.Stages.{each_from}
 use Rattle.dcr_json.specs.Judged.{session_told, sessions_told}
-use Rattle.dcr_json.specs.Texts.{texts_of}
-use Rattle.dcr_json.proofs.RefusingLemmas.{from_step, from_stops}
+use Rattle.dcr_json.specs.declared.case.CaseStop.TheVariants.{NoMemory}
+use Rattle.dcr_nodes.proofs.StageLemmas.{from_step, from_stop, from_end}
 use Rattle.dcr_json.proofs.calls.read_sessions.Goals as goal
 
 pub returns-in_err-calls : goal.returns-in_err-calls
 unfolding sessions_told
 returns-in_err-calls c =
-    let stopped = from_stops texts_of (session_told c.args.cover.now.names c.args.graph.now.names) c.args.sessions.now c.loop-k.k c.index-sessions-k.result c.loop-k.read.items
-    c.in_err-calls.field-0.0 (omega arith) c.index-sessions-k.is c.loop-k.invariant
-    (λ h. ap (λ texts. session_told c.args.cover.now.names c.args.graph.now.names c.loop-k.k (map string_bytes texts)) (sym c.deref.ensures.value) ∙ c.in_err-calls.ensures h) in
+    let stopped : c.in_err-calls.field-0.0 ≢ NoMemory → each_from (session_told c.args.cover.now.names c.args.graph.now.names) 0 c.args.sessions.now ≡ Err c.in_err-calls.field-0.0 = λ h. from_stop (session_told c.args.cover.now.names c.args.graph.now.names) c.args.sessions.now c.loop-k.k c.get.result c.loop-k.read.items
+    c.in_err-calls.field-0.0 c.get.ensures.session c.loop-k.invariant (c.in_err-calls.ensures h) in
     search rules
 
 pub loop-k-preserved : goal.loop-k-preserved
 loop-k-preserved c =
-    from_step texts_of (session_told c.args.cover.now.names c.args.graph.now.names) c.args.sessions.now c.loop-k.k c.index-sessions-k.result c.loop-k.read.items
-    c.new.result (omega arith) c.index-sessions-k.is c.loop-k.invariant
-    (ap (λ texts. session_told c.args.cover.now.names c.args.graph.now.names c.loop-k.k (map string_bytes texts)) (sym c.deref.ensures.value) ∙ c.in_ok-calls.ensures ∙ ap Ok (sym c.new.ensures))
+    from_step (session_told c.args.cover.now.names c.args.graph.now.names) c.args.sessions.now c.loop-k.k c.get.result c.loop-k.read.items
+    c.new.result c.get.ensures.session c.loop-k.invariant (c.in_ok-calls.ensures ∙ ap Ok (sym c.new.ensures))
     ∙ ap Ok (sym c.in_ok-push.ensures.items)
+
+pub returns : goal.returns
+unfolding sessions_told
+returns c = from_end (session_told c.args.cover.now.names c.args.graph.now.names) c.args.sessions.now c.loop-k.k (Ok c.loop-k.read.items) (omega arith) c.loop-k.invariant

@@ -1,13 +1,15 @@
-use Rattle.std.proofs.Common.{refl, rules, arith}
+use Rattle.std.proofs.Common.{ap, rules, arith}
+use Rattle.dcr_json.specs.Refusing.{found_or}
+use Rattle.dcr_json.specs.declared.case.CaseStop.TheVariants.{NotJson}
 use Rattle.dcr_size.proofs.SizeLemmas.{no_value_is_larger}
 use Rattle.dcr_json.proofs.JsonLemmas.{json_read, json_none}
 use Rattle.dcr_json.proofs.read.read_json.Goals as goal
 
 pub returns-in-Ok-clause-json : goal.returns-in-Ok-clause-json
-returns-in-Ok-clause-json c = json_read _ _ c.in-Ok.ensures.ok.0 c.in-Ok.ensures.ok.1
+returns-in-Ok-clause-json c = ap (found_or NotJson) (json_read _ _ c.in-Ok.ensures.ok.0 c.in-Ok.ensures.ok.1)
 
 pub returns-in-Ok-clause-size : goal.returns-in-Ok-clause-size
 returns-in-Ok-clause-size c = omega (arith, c.requires, no_value_is_larger.of_text _ _ c.in-Ok.ensures.ok.1)
 
 pub returns-else-is_memory-clause-json : goal.returns-else-is_memory-clause-json
-returns-else-is_memory-clause-json c = λ _. (refl, json_none _ (c.in-Err.ensures.err (search rules)))
+returns-else-is_memory-clause-json c = λ _. ap (found_or NotJson) (json_none _ (c.in-Err.ensures.err (search rules)))

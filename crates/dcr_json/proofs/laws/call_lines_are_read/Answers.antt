@@ -1,5 +1,0 @@
-use Rattle.dcr_json.proofs.CallLemmas.{call_lines}
-use Rattle.dcr_json.proofs.laws.call_lines_are_read.Goals as goal
-
-pub returns : goal.returns
-returns c = call_lines
