@@ -1,5 +1,4 @@
-pub mod Line
 pub mod Report
-pub mod Fits
-pub mod Grown
+pub mod FitsClosed
 pub mod Passed
+pub mod Stop

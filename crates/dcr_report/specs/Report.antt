@@ -1,49 +1,83 @@
 -- The report of a run, line by line.
-use Rattle.std.specs.Prelude.{ℕ, ◌+◌, List, [], ◌∷◌, ◌++◌, length, codes, decimal, Option, Some, None}
+use Rattle.std.specs.Prelude.{ℕ, ◌+◌, List, [], ◌∷◌, ◌++◌, length, codes, decimal, flat_map, Option, Some, None}
+use Rattle.dcr_graph.specs.Cause.{waits}
 use Rattle.dcr_graph.specs.declared.marking.Marking.{Marking}
 use Rattle.dcr_graph.specs.declared.marking.SiteMark.{SiteMark}
+use Rattle.dcr_nest.specs.Nest.{Nest, names_of, parents_of}
+use Rattle.dcr_nest.specs.FlatRelation.{flat_relation, of_atoms}
+use Rattle.dcr_nest.specs.declared.node.Version.{Version}
+use Rattle.dcr_nest.specs.declared.node.Version.TheVariants.{V1, V2}
+use Rattle.dcr_proj.specs.CoverValue.{Owners}
+use Rattle.dcr_journal.specs.Run.{after, marks_at}
 use Rattle.dcr_journal.specs.declared.call.Entry.{Entry}
 use Rattle.dcr_journal.specs.declared.closed.Closed.{Closed}
-use Rattle.dcr_report.specs.Line.{mark_text, entry_text, name_of}
+use Rattle.dcr_line.specs.Line.{mark_text, entry_text, name_of}
+use Rattle.dcr_canon.specs.GraphText.{graph_text}
+use Rattle.dcr_canon.specs.CoverText.{cover_text}
 
 -- a text with its line end
 abbrev pub line : List ℕ → List ℕ
 line text = text ++ 10 ∷ []
 
--- the version of the format, and the opening marking over all atoms
-unfoldable pub head_lines : List (List ℕ) → Marking → List ℕ
-head_lines atoms M = line (codes "dcr 1") ++ line (codes "open " ++ mark_text atoms M.executed M.pending M.included)
+-- the lines one after the other, each with its line end
+abbrev pub lines_text : List (List ℕ) → List ℕ
+lines_text lines = flat_map line lines
+
+-- the first line tells the version of the graph
+abbrev pub version_text : Version → List ℕ
+version_text V1 = codes "dcr 1"
+version_text V2 = codes "dcr 2"
+
+-- the version, the graph, the cover, and the opening marking over all atoms, which have these names
+abbrev pub head_lines : Nest → Owners → List (List ℕ) → Marking → List (List ℕ)
+head_lines N C names M =
+    version_text N.version
+    ∷ (codes "graph " ++ graph_text N)
+    ∷ (codes "cover " ++ cover_text names C)
+    ∷ (codes "open " ++ mark_text names M.executed M.pending M.included)
+    ∷ []
 
 -- a line for each entry, the first at this place
-unfoldable pub entry_lines : List (List ℕ) → List (List ℕ) → ℕ → List Entry → List ℕ
-entry_lines atoms sites place [] = []
-entry_lines atoms sites place (entry ∷ entries) =
-    line (entry_text atoms sites place entry) ++ entry_lines atoms sites (place + 1) entries
+unfoldable pub entry_lines : List (List ℕ) → List (List ℕ) → ℕ → List Entry → List (List ℕ)
+entry_lines sites names place [] = []
+entry_lines sites names place (entry ∷ entries) = entry_text sites names place entry ∷ entry_lines sites names (place + 1) entries
 
--- one site with its marks at the end
-unfoldable pub site_line : List (List ℕ) → List ℕ → SiteMark → List ℕ
-site_line atoms site mark =
-    line (codes "site " ++ site ++ codes " " ++ mark_text atoms mark.executed mark.pending mark.included)
+-- a site with its marks
+abbrev pub site_text : List (List ℕ) → List ℕ → SiteMark → List ℕ
+site_text names site mark = codes "site " ++ site ++ codes " " ++ mark_text names mark.executed mark.pending mark.included
 
--- a line for each site
-unfoldable pub site_lines : List (List ℕ) → List (List ℕ) → List SiteMark → List ℕ
-site_lines atoms [] marks = []
-site_lines atoms (site ∷ sites) [] = []
-site_lines atoms (site ∷ sites) (mark ∷ marks) = site_line atoms site mark ++ site_lines atoms sites marks
+-- a line for each site, with the marks of each in the same order
+unfoldable pub site_lines : List (List ℕ) → List (List ℕ) → List SiteMark → List (List ℕ)
+site_lines names [] marks = []
+site_lines names (site ∷ sites) [] = []
+site_lines names (site ∷ sites) (mark ∷ marks) = site_text names site mark ∷ site_lines names sites marks
 
--- what the run waits for; it is accepting where it waits for nothing
+-- accepting where nothing is waited for, else the atom that is
 abbrev pub verdict_text : List (List ℕ) → Option ℕ → List ℕ
-verdict_text atoms None = codes "verdict accepting"
-verdict_text atoms (Some e) = codes "verdict waits " ++ name_of atoms e
+verdict_text names None = codes "verdict accepting"
+verdict_text names (Some e) = codes "verdict waits " ++ name_of names e
 
 -- the verdict, and how many entries there are
-unfoldable pub end_lines : List (List ℕ) → Option ℕ → ℕ → List ℕ
-end_lines atoms waits count = line (verdict_text atoms waits) ++ line (codes "end " ++ decimal count)
+abbrev pub end_lines : List (List ℕ) → Option ℕ → ℕ → List (List ℕ)
+end_lines names waited count = verdict_text names waited ∷ (codes "end " ++ decimal count) ∷ []
 
--- the whole report
-abbrev pub report_text : List (List ℕ) → List (List ℕ) → Closed → List ℕ
-report_text atoms sites closed =
-    head_lines atoms closed.opening
-    ++ (entry_lines atoms sites 0 closed.history.entries
-    ++ (site_lines atoms sites closed.marks
-    ++ end_lines atoms closed.waits (length closed.history.entries)))
+-- the lines of the entries J from M, after which the sites have these marks and this atom is waited for
+abbrev pub report_lines : Nest → Owners → List (List ℕ) → Marking → List Entry → List SiteMark → Option ℕ → List (List ℕ)
+report_lines N C names M J marks waited =
+    head_lines N C names M
+    ++ (entry_lines C.names names 0 J
+    ++ (site_lines names C.names marks
+    ++ end_lines names waited (length J)))
+
+-- The report of the entries J from the opening marking M, over a nested graph and a cover: the atoms have the names
+-- of their nodes, and the marks of the sites and the verdict are those of the marking after J.
+unfoldable pub report_text : Nest → Owners → Marking → List Entry → List ℕ
+report_text N C M J =
+    let last : Marking = after (flat_relation N) M J in
+    lines_text (report_lines N C (of_atoms (parents_of N.nodes) (names_of N.nodes)) M J (marks_at (flat_relation N) C.owned last) (waits (flat_relation N).atoms last))
+
+-- ---- for private clauses
+
+-- the report of what a closed run tells, where the atoms have these names
+abbrev pub told_text : Nest → Owners → List (List ℕ) → Closed → List ℕ
+told_text N C names closed = lines_text (report_lines N C names closed.opening closed.history.entries closed.marks closed.waits)

@@ -1,12 +1,10 @@
-//! The report of a run: its opening marking, every call with its answer, the marks of the sites,
-//! and the verdict.
+//! The report of a run: the graph, the cover and the opening marking, every call with its answer, the marks
+//! of the sites at the end, and the verdict.
 #![tactic(auto)]
 
-mod line;
+mod lines;
 mod report;
-mod word;
 
-pub use line::{write_call, write_entry, write_mark};
 pub use report::{ReportStop, write_report};
 
 #[cfg(test)]

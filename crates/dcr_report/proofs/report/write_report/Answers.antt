@@ -1,28 +1,26 @@
-use Rattle.std.proofs.Common.{refl}
-use Rattle.dcr_report.specs.declared.report.ReportStop.TheVariants.{WriteFault}
-use Rattle.dcr_report.proofs.Passing.{OnErr-of, told_is, front_at_stop, part_at_fault, fault_at_end, all_at_end}
+use Rattle.std.proofs.Common.{ℕ, ◌<◌, List, length, take, subst}
+use Rattle.std.specs.Io.KnownBytes.{Appends}
+use Rattle.std.proofs.lemmas.Result.{on_ok_weaker, on_err_weaker}
+use Rattle.dcr_report.proofs.ReportLemmas.{legal_fits, told_is_report}
 use Rattle.dcr_report.proofs.report.write_report.Goals as goal
 
-pub returns-in_err-pass_report-clause-front : goal.returns-in_err-pass_report-clause-front
-returns-in_err-pass_report-clause-front g c = OnErr-of c.from_residual.result _ (front_at_stop c.new-held.ensures.items c.in_err-pass_report.ensures.stopped)
-
-pub returns-in_err-pass_report-clause-not_all : goal.returns-in_err-pass_report-clause-not_all
-returns-in_err-pass_report-clause-not_all g c = λ fault. part_at_fault c.new-held.ensures.items c.in_err-pass_report.ensures.stopped
-    (told_is c.from_residual.result _ _ c.from_residual.ensures.1 fault)
-
-pub returns-in_err-write_all-clause-front : goal.returns-in_err-write_all-clause-front
-returns-in_err-write_all-clause-front g c =
-    let fault = c.in_err-write_all.ensures in
-    OnErr-of c.from_residual-in_err-write_all.result _ (front_at_stop c.new-held.ensures.items
-    (fault_at_end _ _ _ _ _ WriteFault c.in_ok-pass_report.ensures.passed c.in_ok-pass_report.ensures.never_falls
-    c.deref.ensures.value fault.front fault.not_all fault.counted))
-
-pub returns-in_err-write_all-clause-not_all : goal.returns-in_err-write_all-clause-not_all
-returns-in_err-write_all-clause-not_all g c =
-    let fault = c.in_err-write_all.ensures in
-    λ _. part_at_fault c.new-held.ensures.items
-    (fault_at_end _ _ _ _ _ WriteFault c.in_ok-pass_report.ensures.passed c.in_ok-pass_report.ensures.never_falls
-    c.deref.ensures.value fault.front fault.not_all fault.counted) refl
+pub write_told-requires-clause-fits : goal.write_told-requires-clause-fits
+write_told-requires-clause-fits g c = legal_fits c.args.graph.now c.args.cover.now c.args.closed.now c.requires.opening c.requires.legal c.requires.marks c.requires.verdict
 
 pub returns-clause-all : goal.returns-clause-all
-returns-clause-all g c = all_at_end _ _ _ _ _ _ _ c.new-held.ensures.items c.deref.ensures.value c.in_ok-pass_report.ensures.passed c.in_ok-write_all.ensures.all
+returns-clause-all g c =
+    let same = told_is_report c.args.nested.now c.args.graph.now c.args.cover.now c.args.closed.now c.requires.flattening c.requires.marks c.requires.verdict in
+    let All : List ℕ → Type 0 = λ text. Appends (g.O.Sink.taken c.args.sink.now) (g.O.Sink.taken c.write_told.new.sink) text in
+    on_ok_weaker c.write_told.result (subst All same) c.write_told.ensures.all
+
+pub returns-clause-front : goal.returns-clause-front
+returns-clause-front g c =
+    let same = told_is_report c.args.nested.now c.args.graph.now c.args.cover.now c.args.closed.now c.requires.flattening c.requires.marks c.requires.verdict in
+    let Front : List ℕ → Type 0 = λ text. (n : ℕ) × Appends (g.O.Sink.taken c.args.sink.now) (g.O.Sink.taken c.write_told.new.sink) (take n text) in
+    on_err_weaker c.write_told.result (subst Front same) c.write_told.ensures.front
+
+pub returns-clause-not_all : goal.returns-clause-not_all
+returns-clause-not_all g c =
+    let same = told_is_report c.args.nested.now c.args.graph.now c.args.cover.now c.args.closed.now c.requires.flattening c.requires.marks c.requires.verdict in
+    let Part : List ℕ → Type 0 = λ text. (n : ℕ) × (n < length text) × Appends (g.O.Sink.taken c.args.sink.now) (g.O.Sink.taken c.write_told.new.sink) (take n text) in
+    λ fault. subst Part same (c.write_told.ensures.not_all fault)
