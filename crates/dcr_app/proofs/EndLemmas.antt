@@ -1,12 +1,12 @@
 -- Ends without a run.
-use Rattle.std.proofs.Common.{◌≡◌, ◌≢◌, ℕ, ◌<◌, List, [], length, Option, Some, None, Result, Ok, Err, IfSome, inl, inr, refl, sym, ap, subst, ◌∙◌, ◌≤◌, take, arith, cond}
+use Rattle.std.proofs.Common.{◌≡◌, ◌≢◌, ℕ, ◌<◌, List, [], length, Option, Some, None, Result, Ok, Err, IfSome, inr, refl, sym, ap, subst, take, arith, cond}
 use Rattle.std.specs.Io.KnownBytes.{Appends}
 use Rattle.std.proofs.lemmas.Bool.{lt-leb}
 use Rattle.std.proofs.lemmas.List.{append-nil, take_all}
 use Rattle.dcr_base.specs.declared.status.Status.TheVariants.{NoMemory}
 use Rattle.dcr_json.specs.Case.{case_in}
 use Rattle.dcr_json.specs.Judged.{Spelled}
-use Rattle.dcr_json.specs.Refusing.{◌>>=◌}
+use Rattle.dcr_shape.specs.Stages.{◌>>=◌}
 use Rattle.dcr_json.specs.declared.case.CaseStop.{CaseStop}
 use Rattle.dcr_json.specs.declared.case.CaseStop.TheVariants.{TooLong, NotJson}
 use Rattle.dcr_json.specs.declared.case.CaseStop.TheVariants as stop
@@ -62,7 +62,12 @@ pub refused : (why : CaseStop) (case : Result Spelled CaseStop) (before after : 
 refused stop.NoMemory case before after end says r starves = starved_end case before after end (starves refl) r
 refused stop.TooLong case before after end says r starves = by_name stop.TooLong case before after end (says (λ e. absurd cc)) r
 refused stop.NotJson case before after end says r starves = by_name stop.NotJson case before after end (says (λ e. absurd cc)) r
-refused stop.NotBuilt case before after end says r starves = by_name stop.NotBuilt case before after end (says (λ e. absurd cc)) r
+refused (stop.Shape part i) case before after end says r starves = by_name (stop.Shape part i) case before after end (says (λ e. absurd cc)) r
+refused (stop.Limit kind n) case before after end says r starves = by_name (stop.Limit kind n) case before after end (says (λ e. absurd cc)) r
+refused (stop.EventName i) case before after end says r starves = by_name (stop.EventName i) case before after end (says (λ e. absurd cc)) r
+refused (stop.Parent i) case before after end says r starves = by_name (stop.Parent i) case before after end (says (λ e. absurd cc)) r
+refused (stop.MarkOnNest i) case before after end says r starves = by_name (stop.MarkOnNest i) case before after end (says (λ e. absurd cc)) r
+refused (stop.RelationEnd i) case before after end says r starves = by_name (stop.RelationEnd i) case before after end (says (λ e. absurd cc)) r
 refused (stop.Clash a b) case before after end says r starves = by_name (stop.Clash a b) case before after end (says (λ e. absurd cc)) r
 refused (stop.SiteName i) case before after end says r starves = by_name (stop.SiteName i) case before after end (says (λ e. absurd cc)) r
 refused (stop.Owned i j) case before after end says r starves = by_name (stop.Owned i j) case before after end (says (λ e. absurd cc)) r

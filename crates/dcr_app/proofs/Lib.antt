@@ -1,4 +1,2 @@
-mod SitesLemmas
-mod SessionLemmas
-mod CaseLemmas
 mod EndLemmas
+mod RunLemmas

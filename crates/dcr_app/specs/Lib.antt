@@ -1,5 +1,2 @@
-pub mod Engine
-pub mod SitesModel
-pub mod RunOf
 pub mod Refusal
 pub mod Ends

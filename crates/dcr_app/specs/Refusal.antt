@@ -1,13 +1,43 @@
 -- The line that tells a refusal.
 use Rattle.std.specs.Prelude.{ℕ, List, [], ◌++◌, codes, decimal}
+use Rattle.dcr_shape.specs.declared.stop.Part.{Part}
+use Rattle.dcr_shape.specs.declared.stop.Part.TheVariants.{Top, Graph, Event, Relation, Cover, Site, Sessions, Session}
+use Rattle.dcr_shape.specs.declared.stop.LimitKind.{LimitKind}
+use Rattle.dcr_shape.specs.declared.stop.LimitKind.TheVariants as kind
 use Rattle.dcr_json.specs.declared.case.CaseStop.{CaseStop}
-use Rattle.dcr_json.specs.declared.case.CaseStop.TheVariants.{TooLong, NotJson, NotBuilt, Clash, SiteName, Owned, Uncovered, CallLine, NoMemory}
+use Rattle.dcr_json.specs.declared.case.CaseStop.TheVariants.{TooLong, NotJson, Shape, Limit, EventName, Parent, MarkOnNest, RelationEnd, Clash, SiteName, Owned, Uncovered, CallLine, NoMemory}
+
+-- the word of a part of a file
+abbrev pub part_text : Part → List ℕ
+part_text Top = codes "top"
+part_text Graph = codes "graph"
+part_text Event = codes "event"
+part_text Relation = codes "relation"
+part_text Cover = codes "cover"
+part_text Site = codes "site"
+part_text Sessions = codes "sessions"
+part_text Session = codes "session"
+
+-- the word of what a limit counts
+abbrev pub limit_text : LimitKind → List ℕ
+limit_text kind.Nodes = codes "nodes"
+limit_text kind.Atoms = codes "atoms"
+limit_text kind.Relations = codes "relations"
+limit_text kind.Label = codes "label"
+limit_text kind.Sites = codes "sites"
+limit_text kind.Sessions = codes "sessions"
+limit_text kind.Calls = codes "calls"
 
 -- its number and its name, and then what it names, with one space between; want of memory has no line
 abbrev pub refusal_line : CaseStop → List ℕ
 refusal_line TooLong = codes "refused 1 too-long\n"
 refusal_line NotJson = codes "refused 2 not-json\n"
-refusal_line NotBuilt = codes "refused 0 not-built\n"
+refusal_line (Shape part i) = codes "refused 3 shape " ++ part_text part ++ codes " " ++ decimal i ++ codes "\n"
+refusal_line (Limit kind count) = codes "refused 4 limit " ++ limit_text kind ++ codes " " ++ decimal count ++ codes "\n"
+refusal_line (EventName i) = codes "refused 5 event-name " ++ decimal i ++ codes "\n"
+refusal_line (Parent i) = codes "refused 6 parent " ++ decimal i ++ codes "\n"
+refusal_line (MarkOnNest i) = codes "refused 7 mark-on-nest " ++ decimal i ++ codes "\n"
+refusal_line (RelationEnd i) = codes "refused 8 relation-end " ++ decimal i ++ codes "\n"
 refusal_line (Clash a b) = codes "refused 9 clash " ++ a ++ codes " " ++ b ++ codes "\n"
 refusal_line (SiteName i) = codes "refused 10 site-name " ++ decimal i ++ codes "\n"
 refusal_line (Owned i j) = codes "refused 10 owned " ++ decimal i ++ codes " " ++ decimal j ++ codes "\n"

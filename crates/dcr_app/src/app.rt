@@ -6,17 +6,13 @@ ghost use Rattle.dcr_json.specs.Built.{case_of, IsCase};
 ghost use Rattle.dcr_json.specs.Case.{case_in};
 ghost use Rattle.dcr_json.specs.Judged.{Spelled};
 ghost use Rattle.dcr_json.specs.declared.case.CaseStop.{CaseStop as Stop};
-ghost use Rattle.dcr_report.specs.Report.{report_text};
-ghost use Rattle.dcr_report.specs.Fits.{FitsClosed};
-ghost use Rattle.dcr_app.specs.RunOf.{IsRunOf};
-ghost use Rattle.dcr_app.specs.Ends.{IsRun, Wrote, SaysLine, SaysUsage, Refuses, Answers, Told, Reported, IsRunStatus};
+ghost use Rattle.dcr_app.specs.Ends.{IsRun, SaysLine, SaysUsage, Refuses, Answers, Told, Reported, IsDoneThroughout};
 
 use crate::refusal::line_of;
-use crate::run::{Ran, run_case};
+use crate::run::run_and_report;
 use dcr_base::{ReadStop, Sink, Source, Status, read_all, write_all};
 use dcr_journal::Closed;
-use dcr_json::{Case, CaseStop, read_case};
-use dcr_report::{ReportStop, write_report};
+use dcr_json::{CaseStop, read_case};
 use std::alloc::Global;
 
 // The most bytes of a case file.
@@ -54,6 +50,7 @@ pub fn dcr<R, I: Source, O: Sink>(
     ensures reads_never_fall { I.read_faults input.old ≤ I.read_faults input.new }
     ensures writes_never_fall { O.write_faults output.old ≤ O.write_faults output.new }
     ensures report { result.status ≡ Status.Done → Reported (I.left input.old) (O.taken output.old) (O.taken output.new) result }
+    ensures converse { IsRun words.now → IsDoneThroughout (I.left input.old) result }
     ensures usage_only { result.status ≡ Status.Usage → IsRun words.now → ⊥ }
     ensures done { IsRun words.now → IfSome (I.left input.old) (λ bytes. (case : Spelled) → case_in bytes ≡ Ok case
         → (Rose (I.read_faults input.old) (I.read_faults input.new) → ⊥)
@@ -154,47 +151,5 @@ fn refuse<O: Sink>(alloc: Global, output: &mut O, stop: CaseStop) -> End
             status: Status::NoMemory,
             closed: None,
         },
-    }
-}
-
-// Runs a case and writes the report of the run.
-fn run_and_report<O: Sink>(alloc: Global, case: Case, output: &mut O) -> End
-    requires { IsCase (case_of case) }
-    ensures answers { Answers (Ok (case_of case)) (O.taken output.old) (O.taken output.new) result }
-    ensures counted { result.status ≡ Status.WriteFault → Rose (O.write_faults output.old) (O.write_faults output.new) }
-    ensures never_falls { O.write_faults output.old ≤ O.write_faults output.new }
-{
-    match run_case(alloc, case) {
-        Ok(ran) => report(alloc, ran, output),
-        Err(_) => End {
-            status: Status::NoMemory,
-            closed: None,
-        },
-    }
-}
-
-// Writes the report of a run.
-fn report<O: Sink>(alloc: Global, ran: Ran, output: &mut O) -> End
-    requires { FitsClosed (length ran.graph.names) (length ran.cover.names) ran.closed }
-    ensures closed { result.closed ≡ Some ran.closed }
-    ensures status { IsRunStatus result.status }
-    ensures wrote { Wrote result.status (report_text ran.graph.names ran.cover.names ran.closed) (O.taken output.old) (O.taken output.new) }
-    ensures counted { result.status ≡ Status.WriteFault → Rose (O.write_faults output.old) (O.write_faults output.new) }
-    ensures never_falls { O.write_faults output.old ≤ O.write_faults output.new }
-{
-    let status = match write_report(
-        alloc,
-        &ran.graph,
-        ran.cover.site_names(),
-        &ran.closed,
-        output,
-    ) {
-        Ok(()) => Status::Done,
-        Err(ReportStop::WriteFault) => Status::WriteFault,
-        Err(ReportStop::NoMemory) => Status::NoMemory,
-    };
-    End {
-        status,
-        closed: Some(ran.closed),
     }
 }

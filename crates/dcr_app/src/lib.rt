@@ -4,8 +4,6 @@
 mod app;
 mod refusal;
 mod run;
-mod session;
-mod sites;
 
 pub use app::{End, dcr};
 pub use dcr_base::Status;

@@ -1,8 +1,8 @@
 ghost use Rattle.std.specs.Prelude.{◌≡◌, ◌++◌, codes, decimal, OnOk, IfOk};
-ghost use Rattle.dcr_app.specs.Refusal.{refusal_line};
+ghost use Rattle.dcr_app.specs.Refusal.{limit_text, part_text, refusal_line};
 
 use dcr_graph::Name;
-use dcr_json::CaseStop;
+use dcr_json::{CaseStop, LimitKind, Part};
 use dcr_set::NoMemory;
 use dcr_text::decimal;
 use std::alloc::Global;
@@ -15,7 +15,16 @@ pub(crate) fn line_of(alloc: Global, stop: &CaseStop) -> Result<Vec<u8>, NoMemor
     match stop {
         CaseStop::TooLong => text(alloc, b"refused 1 too-long\n"),
         CaseStop::NotJson => text(alloc, b"refused 2 not-json\n"),
-        CaseStop::NotBuilt => text(alloc, b"refused 0 not-built\n"),
+        CaseStop::Shape { part, index } => {
+            worded(alloc, b"refused 3 shape ", part_text(*part), *index)
+        }
+        CaseStop::Limit { kind, count } => {
+            worded(alloc, b"refused 4 limit ", limit_text(*kind), *count)
+        }
+        CaseStop::EventName { i } => numbered(alloc, b"refused 5 event-name ", *i),
+        CaseStop::Parent { i } => numbered(alloc, b"refused 6 parent ", *i),
+        CaseStop::MarkOnNest { i } => numbered(alloc, b"refused 7 mark-on-nest ", *i),
+        CaseStop::RelationEnd { i } => numbered(alloc, b"refused 8 relation-end ", *i),
         CaseStop::Clash { a, b } => clash(alloc, a, b),
         CaseStop::SiteName { i } => numbered(alloc, b"refused 10 site-name ", *i),
         CaseStop::Owned { i, j } => numbered_twice(alloc, b"refused 10 owned ", *i, *j),
@@ -76,4 +85,47 @@ fn numbered_twice(alloc: Global, words: &[u8], m: u32, n: u32) -> Result<Vec<u8>
     decimal(u64::from(n), &mut line)?;
     line.extend_from_slice(b"\n")?;
     Ok(line)
+}
+
+// These words, a word and a number.
+fn worded(alloc: Global, words: &[u8], word: &[u8], n: u32) -> Result<Vec<u8>, NoMemory>
+    ensures { IfOk result (λ line. line.items ≡ words.now ++ word.now ++ codes " " ++ decimal n ++ codes "\n") }
+{
+    let mut line = text(alloc, words)?;
+    line.extend_from_slice(word)?;
+    line.extend_from_slice(b" ")?;
+    decimal(u64::from(n), &mut line)?;
+    line.extend_from_slice(b"\n")?;
+    Ok(line)
+}
+
+// The word of a part of a file.
+fn part_text(part: Part) -> &'static [u8]
+    ensures { result.now ≡ part_text part }
+{
+    match part {
+        Part::Top => b"top",
+        Part::Graph => b"graph",
+        Part::Event => b"event",
+        Part::Relation => b"relation",
+        Part::Cover => b"cover",
+        Part::Site => b"site",
+        Part::Sessions => b"sessions",
+        Part::Session => b"session",
+    }
+}
+
+// The word of what a limit counts.
+fn limit_text(kind: LimitKind) -> &'static [u8]
+    ensures { result.now ≡ limit_text kind }
+{
+    match kind {
+        LimitKind::Nodes => b"nodes",
+        LimitKind::Atoms => b"atoms",
+        LimitKind::Relations => b"relations",
+        LimitKind::Label => b"label",
+        LimitKind::Sites => b"sites",
+        LimitKind::Sessions => b"sessions",
+        LimitKind::Calls => b"calls",
+    }
 }

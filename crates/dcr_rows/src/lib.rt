@@ -6,10 +6,10 @@ mod causes;
 #[cfg(test)]
 mod effects;
 #[cfg(test)]
-mod first;
-#[cfg(test)]
 mod limits;
 #[cfg(test)]
 mod refusals;
 #[cfg(test)]
 mod small;
+#[cfg(test)]
+mod whole;

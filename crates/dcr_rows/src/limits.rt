@@ -1,4 +1,5 @@
-use crate::first::answer;
+// Each limit at its edge.
+use crate::whole::answer;
 use dcr_app::Status;
 use std::alloc::Global;
 use std::fmt::Write;
@@ -52,29 +53,39 @@ fn push_same(text: &mut String, count: u32, same: &str) -> Result<(), Fail> {
 
 #[test]
 fn limits_are_exact(rt: HostRuntime) -> Result<(), Fail> {
-    for (row, events, relations, sites, calls, is_within) in [
-        ("256 events", 256, 0, 1, 0, true),
-        ("257 events", 257, 0, 1, 0, false),
-        ("4,096 relations", 1, 4096, 1, 0, true),
-        ("4,097 relations", 1, 4097, 1, 0, false),
-        ("16 sites", 1, 0, 16, 0, true),
-        ("17 sites", 1, 0, 17, 0, false),
-        ("200,000 calls", 1, 0, 1, 200_000, true),
-        ("200,001 calls", 1, 0, 1, 200_001, false),
+    for (row, events, relations, sites, calls, refused) in [
+        ("1,024 atoms", 1024, 0, 1, 0, ""),
+        ("1,025 atoms", 1025, 0, 1, 0, "refused 4 limit atoms 1025\n"),
+        ("4,096 relations", 1, 4096, 1, 0, ""),
+        (
+            "4,097 relations",
+            1,
+            4097,
+            1,
+            0,
+            "refused 4 limit relations 4097\n",
+        ),
+        ("64 sites", 1, 0, 64, 0, ""),
+        ("65 sites", 1, 0, 65, 0, "refused 4 limit sites 65\n"),
+        ("200,000 calls", 1, 0, 1, 200_000, ""),
+        (
+            "200,001 calls",
+            1,
+            0,
+            1,
+            200_001,
+            "refused 4 limit calls 200001\n",
+        ),
     ] {
         let text = case_text(rt.alloc(), events, relations, sites, calls)?;
         let (status, written) = answer(&rt, &["run"], text.as_bytes())?;
-        if is_within {
+        if refused.is_empty() {
             let end = format!(in rt.alloc(); "\nend {calls}\n")?;
             assert_eq!(rt; status, Status::Done, "{row}");
             assert!(rt; written.as_slice().ends_with(end.as_bytes()), "{row}");
         } else {
             assert_eq!(rt; status, Status::Refused, "{row}");
-            assert_eq!(rt;
-                written.as_slice(),
-                "refused 0 not-built\n".as_bytes(),
-                "{row}"
-            );
+            assert_eq!(rt; written.as_slice(), refused.as_bytes(), "{row}");
         }
     }
     Ok(())

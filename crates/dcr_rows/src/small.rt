@@ -1,10 +1,10 @@
 // Small graphs as tables of tests.
-use crate::first::answer;
+use crate::whole::answer;
 use dcr_app::Status;
 use std::alloc::{AllocError, Global};
 use std::test::Fail;
 
-// A case in its parts, each the elements of an array, and its report after the first line.
+// A case in its parts, each the elements of an array, and its report from the opening marking on.
 pub(crate) struct Row {
     pub(crate) name: &'static str,
     pub(crate) events: &'static str,
@@ -32,10 +32,12 @@ pub(crate) fn first_wrong(rt: &HostRuntime, rows: &[Row]) -> Result<String, Fail
     Ok(String::new(rt.alloc()))
 }
 
+// The lines before the opening marking are the version, the graph and the cover.
 fn gives_its_report(rt: &HostRuntime, row: &Row) -> Result<bool, Fail> {
     let file = file(rt.alloc(), row)?;
     let (status, written) = answer(rt, &["run"], file.as_bytes())?;
-    let report = row.report;
-    let want = format!(in rt.alloc(); "dcr 1\n{report}")?;
-    Ok(status == Status::Done && written.as_slice() == want.as_bytes())
+    let head = format!(in rt.alloc(); "dcr 1\ngraph {{\"events\":[")?;
+    let tail = format!(in rt.alloc(); "]\n{}", row.report)?;
+    let is_whole = written.starts_with(head.as_bytes()) && written.ends_with(tail.as_bytes());
+    Ok(status == Status::Done && is_whole)
 }

@@ -1,8 +1,0 @@
-use Rattle.std.proofs.Common.{sym, ap, subst, ◌∙◌}
-use Rattle.dcr_app.specs.Engine.{AllStand}
-use Rattle.dcr_app.proofs.SitesLemmas.{waits_covered}
-use Rattle.dcr_app.proofs.sites.Sites.first_waiting.Goals as goal
-
-pub returns : goal.returns
-returns c = λ G C M stand covers.
-    c.first_of_each.ensures G C M (subst (AllStand G C M) (sym (c.deref.ensures.value ∙ ap (λ E. E.sites) c.self.view_is)) stand) ∙ waits_covered G C M covers

@@ -1,6 +1,0 @@
-use Rattle.std.proofs.Common.{take}
-use Rattle.dcr_app.proofs.SitesLemmas.{HeardBy}
-use Rattle.dcr_app.proofs.sites.hear_each.Given as goal
-
-abbrev pub invariant-loop-participant : goal.invariant-loop-participant
-invariant-loop-participant l = HeardBy l.e (take l.participant-index l.participants) l.fn.members l.members
