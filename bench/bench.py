@@ -5,7 +5,8 @@
     bench/bench.py run        the two largest cases
     bench/bench.py read       the inputs of 16 MB
 
-Each line is the best of three runs: wall time, processor time (user and system) and peak memory of the process.
+Each line is the best of three runs: wall time, processor time (user and system) and peak memory of the process. The
+ratio of the second table is that of the processor times.
 The inputs are made anew from fixed seeds; nothing is kept. Build first: `./dcr` builds the program, and
 `rt run` in crates/bench_json the JSON reader alone.
 """
@@ -122,11 +123,13 @@ def run_table():
 
 
 def read_table():
-    print("%-40s %6s %9s %9s %9s | %9s %7s" % ("read, 16,777,216 bytes", "status", "seconds", "cpu s", "peak MB", "JSON s", "ratio"))
+    columns = ("read, 16,777,216 bytes", "status", "seconds", "cpu s", "peak MB", "JSON s", "JSON cpu", "JSON MB", "ratio")
+    print("%-40s %6s %9s %9s %9s | %8s %8s %8s %6s" % columns)
     for name, text in read_inputs():
         status, seconds, cpu, peak = measure(PROGRAM, text)
-        _, alone, _, _ = measure(READER, text)
-        print("%-40s %6d %9.2f %9.2f %9.1f | %9.2f %7.2f" % (name, status, seconds, cpu, peak, alone, seconds / alone))
+        _, alone, alone_cpu, alone_peak = measure(READER, text)
+        row = (name, status, seconds, cpu, peak, alone, alone_cpu, alone_peak, cpu / max(alone_cpu, 0.01))
+        print("%-40s %6d %9.2f %9.2f %9.1f | %8.2f %8.2f %8.1f %6.2f" % row)
 
 
 if __name__ == "__main__":
