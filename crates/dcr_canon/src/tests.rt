@@ -165,7 +165,7 @@ fn told_cover(alloc: Global, nest: &Nested, sites: &[(&str, &str)]) -> Result<Ve
         return Err(Fail::from(NoCover));
     }
     let graph = nest.flatten(alloc)?;
-    let cover = check(alloc, &graph, &texts)?;
+    let cover = check(alloc, nest, &graph, &texts)?;
     if cover.sites() == 0 || cover.owned(SiteId(0)).room() != graph.atoms() {
         return Err(Fail::from(NoCover));
     }

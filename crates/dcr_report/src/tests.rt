@@ -202,7 +202,13 @@ fn site(alloc: Global, name: &str, owned: &str) -> Result<SiteText, Fail>
 }
 
 // The cover of the atoms by these sites.
-fn cover_of(alloc: Global, graph: &Graph, sites: &[(&str, &str)]) -> Result<Cover, Fail>
+fn cover_of(
+    alloc: Global,
+    nested: &Nested,
+    graph: &Graph,
+    sites: &[(&str, &str)],
+) -> Result<Cover, Fail>
+    requires { IsFlattening nested.now graph.now }
     ensures { IfOk result (λ cover. All (λ set. length set ≡ length graph.now.names) cover.owned) }
 {
     let mut texts = Vec::new(alloc);
@@ -212,7 +218,7 @@ fn cover_of(alloc: Global, graph: &Graph, sites: &[(&str, &str)]) -> Result<Cove
     if texts.is_empty() || texts.len() > 64 {
         return Err(Fail::from(NoCase));
     }
-    Ok(check(alloc, graph, &texts)?)
+    Ok(check(alloc, nested, graph, &texts)?)
 }
 
 // The case of these atoms, relations and sites.
@@ -229,7 +235,7 @@ fn set_up(
 {
     let nested = nest_of(alloc, version, names, relations)?;
     let graph = nested.flatten(alloc)?;
-    let cover = cover_of(alloc, &graph, sites)?;
+    let cover = cover_of(alloc, &nested, &graph, sites)?;
     Ok(Setting {
         nested,
         graph,
