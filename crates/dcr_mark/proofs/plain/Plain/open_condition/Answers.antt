@@ -1,0 +1,15 @@
+use Rattle.std.proofs.Common.{◌≡◌, not, ◌&&◌, length, subst, ◌∙◌}
+use Rattle.dcr_set.specs.Least.{least}
+use Rattle.dcr_set.specs.EventSet.{has}
+use Rattle.dcr_graph.specs.GraphValue.{rules_of}
+use Rattle.dcr_graph.specs.Cause.{is_open_condition}
+use Rattle.dcr_graph.specs.declared.kind.Kind.TheVariants.{Condition}
+use Rattle.dcr_mark.proofs.PlainLemmas.{least_told}
+use Rattle.dcr_mark.proofs.plain.Plain.open_condition.Goals as goal
+
+pub returns : goal.returns
+returns c =
+    let g = c.self.inside.graph.now in let M = c.self.inside.marking in
+    subst (λ at. c.first_common_without.result ≡ least (length at.graph.names) (is_open_condition (rules_of at.graph) at.marking c.args.e)) c.self.view_is
+    (c.first_common_without.ensures
+    ∙ least_told (length g.names) c.sources.result.now (λ k. (rules_of g).related Condition k c.args.e) c.sources.ensures.sources (λ k. has M.included k && not (has M.executed k)))

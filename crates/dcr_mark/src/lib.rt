@@ -1,0 +1,8 @@
+//! The plain engine: one marking of all atoms over the whole graph, with which a run is checked.
+#![tactic(auto)]
+
+mod plain;
+#[cfg(test)]
+mod tests;
+
+pub use plain::Plain;
