@@ -1,0 +1,11 @@
+mod JsonLemmas
+mod StageLemmas
+mod NamedLemmas
+mod TextLemmas
+mod LengthLemmas
+mod GraphLemmas
+mod GraphNoneLemmas
+mod LendLemmas
+mod SiteLemmas
+mod CoverLemmas
+mod CoverNoneLemmas

@@ -1,0 +1,68 @@
+use Rattle.std.proofs.Common.{◌≡◌, ◌≢◌, length, Option, option_map, IfSome, sym, ap, subst, ◌∙◌}
+use Rattle.std.specs.List.{All}
+use Rattle.std.proofs.lemmas.List.Elements.{All-weaker}
+use Rattle.serde_json.specs.View.{view}
+use Rattle.dcr_nest.specs.Nest.{names_of, parents_of}
+use Rattle.dcr_nest.specs.Tree.{atoms}
+use Rattle.dcr_canon.specs.CoverText.{cover_text}
+use Rattle.dcr_proj.specs.CoverValue.{Owners, IsCover}
+use Rattle.dcr_cover.proofs.CheckLemmas.{length-names}
+use Rattle.dcr_reading.specs.Accepted.{AreNames}
+use Rattle.dcr_reading.specs.Found.{written_in}
+use Rattle.dcr_reading.proofs.CoverLemmas.{atom_names_are, told_names}
+use Rattle.dcr_reading.proofs.CoverNoneLemmas.{none_long, none_json, none_file, none_text}
+use Rattle.dcr_reading.proofs.StageLemmas.{told_no, told_yes}
+use Rattle.dcr_reading.proofs.cover.read_cover_text.Goals as goal
+
+pub returns-then-bytes-gt-MAX_BYTES : goal.returns-then-bytes-gt-MAX_BYTES
+returns-then-bytes-gt-MAX_BYTES c =
+    let N = c.args.nested.now in
+    let names = atom_names_are N (subst (λ nodes. AreNames (names_of nodes)) c.nodes.ensures.nodes c.see_texts.ensures.names) in
+    none_long c.canonical_texts_are_json.ensures N c.nodes.ensures.nested names c.args.bytes.now c.if-bytes-gt-MAX_BYTES.true
+
+pub returns-in_default : goal.returns-in_default
+returns-in_default c =
+    let N = c.args.nested.now in
+    let names = atom_names_are N (subst (λ nodes. AreNames (names_of nodes)) c.nodes.ensures.nodes c.see_texts.ensures.names) in
+    none_json c.canonical_texts_are_json.ensures N c.nodes.ensures.nested names c.args.bytes.now (ap (option_map view) (sym c.in_default.is) ∙ c.in_ok-value.ensures.json)
+
+pub returns-in_default-2 : goal.returns-in_default-2
+returns-in_default-2 c =
+    let N = c.args.nested.now in
+    let names = atom_names_are N (subst (λ nodes. AreNames (names_of nodes)) c.nodes.ensures.nodes c.see_texts.ensures.names) in
+    none_file c.canonical_texts_are_json.ensures N c.nodes.ensures.nested names c.args.bytes.now (record {
+      value = view c.in-Some.value;
+      file = view c.in_ok-file.file;
+      json = ap (option_map view) (sym c.in-Some.is) ∙ c.in_ok-value.ensures.json;
+      around = c.in_ok-file.ensures.file;
+      is = sym c.in_default-2.is ∙ c.in_ok-cover.ensures.cover;
+    })
+
+pub returns-then-not-branch : goal.returns-then-not-branch
+returns-then-not-branch c =
+    let N = c.args.nested.now in
+    let names = atom_names_are N (subst (λ nodes. AreNames (names_of nodes)) c.nodes.ensures.nodes c.see_texts.ensures.names) in
+    let differ = told_no (c.args.bytes.now ≡ cover_text c.args.graph.now.names c.in-Some-2.cover) (c.args.bytes.now ≢ cover_text c.args.graph.now.names c.in-Some-2.cover)
+    c.in_ok-is_cover_text.field-0 c.in_ok-is_cover_text.ensures c.if-not-branch.true in
+    none_text c.canonical_texts_are_json.ensures N c.nodes.ensures.nested names c.args.bytes.now c.in-Some-2.cover (record {
+      value = view c.in-Some.value;
+      file = view c.in_ok-file.file;
+      json = ap (option_map view) (sym c.in-Some.is) ∙ c.in_ok-value.ensures.json;
+      around = c.in_ok-file.ensures.file;
+      is = sym c.in-Some-2.is ∙ c.in_ok-cover.ensures.cover;
+    }) (λ same. differ (same ∙ ap (λ atoms. cover_text atoms c.in-Some-2.cover) (sym c.requires.names)))
+
+pub returns : goal.returns
+returns c =
+    let N = c.args.nested.now in
+    let cover = c.in-Some-2.cover in
+    let same = told_yes (c.args.bytes.now ≡ cover_text c.args.graph.now.names cover) (c.args.bytes.now ≢ cover_text c.args.graph.now.names cover)
+    c.in_ok-is_cover_text.field-0 c.in_ok-is_cover_text.ensures c.if-not-branch.false in (
+      record {
+        is_cover = subst IsCover c.cover.view_is c.cover.invariant;
+        names = told_names N (written_in (view c.in_ok-file.file)) cover (sym c.in-Some-2.is ∙ c.in_ok-cover.ensures.cover);
+        rooms = All-weaker (λ set. length set ≡ length c.args.graph.now.names) (λ set. length set ≡ length (atoms (parents_of N.nodes))) (λ set room. room ∙ length-names N c.args.graph.now c.requires)
+            cover.owned (subst (λ (found : Option Owners). IfSome found (λ C. All (λ set. length set ≡ length c.args.graph.now.names) C.owned)) c.in-Some-2.is c.in_ok-cover.ensures.rooms);
+      },
+      same ∙ ap (λ atoms. cover_text atoms cover) c.requires.names,
+    )

@@ -1,0 +1,67 @@
+use Rattle.std.proofs.Common.{◌≡◌, ◌≢◌, true, Some, None, option_map, IsUtf8, sym, ap, subst, ◌∙◌}
+use Rattle.std.specs.List.{All}
+use Rattle.serde_json.specs.View.{view}
+use Rattle.dcr_graph.specs.Names.{is_label}
+use Rattle.dcr_graph.specs.Pairs.{first_clash}
+use Rattle.dcr_nest.specs.FlatRelation.{flat_relation}
+use Rattle.dcr_nest.specs.Nest.{names_of, labels_of}
+use Rattle.dcr_canon.specs.GraphText.{graph_text}
+use Rattle.dcr_reading.specs.Accepted.{AreNames}
+use Rattle.dcr_reading.specs.Found.{nested_found, nodes_of}
+use Rattle.dcr_reading.proofs.GraphLemmas.{found_version}
+use Rattle.dcr_reading.proofs.GraphNoneLemmas.{none_long, none_json, none_file, none_text, none_clash, IsRead}
+use Rattle.dcr_reading.proofs.StageLemmas.{told_no, told_yes}
+use Rattle.dcr_reading.proofs.graph.read_graph_text.Goals as goal
+
+pub returns-then-bytes-gt-MAX_BYTES : goal.returns-then-bytes-gt-MAX_BYTES
+returns-then-bytes-gt-MAX_BYTES c = none_long c.args.version c.args.bytes.now c.if-bytes-gt-MAX_BYTES.true
+
+pub returns-in_default : goal.returns-in_default
+returns-in_default c =
+    none_json c.canonical_texts_are_json.ensures c.args.version c.args.bytes.now (ap (option_map view) (sym c.in_default.is) ∙ c.in_ok-value.ensures.json)
+
+pub returns-in_default-2 : goal.returns-in_default-2
+returns-in_default-2 c =
+    none_file c.canonical_texts_are_json.ensures c.args.version c.args.bytes.now (record {
+      value = view c.in-Some.value;
+      file = view c.in_ok-file.file;
+      json = ap (option_map view) (sym c.in-Some.is) ∙ c.in_ok-value.ensures.json;
+      around = c.in_ok-file.ensures.file;
+      is = sym c.in_default-2.is ∙ c.in_ok-nested.ensures;
+    })
+
+pub returns-then-not-branch : goal.returns-then-not-branch
+returns-then-not-branch c =
+    let read : IsRead c.args.version c.args.bytes.now (Some c.in-Some-2.nested) = record {
+      value = view c.in-Some.value;
+      file = view c.in_ok-file.file;
+      json = ap (option_map view) (sym c.in-Some.is) ∙ c.in_ok-value.ensures.json;
+      around = c.in_ok-file.ensures.file;
+      is = sym c.in-Some-2.is ∙ c.in_ok-nested.ensures;
+    } in none_text c.canonical_texts_are_json.ensures c.args.version c.args.bytes.now c.in-Some-2.nested read
+    (told_no (c.args.bytes.now ≡ graph_text c.in-Some-2.nested) (c.args.bytes.now ≢ graph_text c.in-Some-2.nested) c.in_ok-is_graph_text.field-0 c.in_ok-is_graph_text.ensures c.if-not-branch.true)
+
+pub returns-then-not-branch-2 : goal.returns-then-not-branch-2
+returns-then-not-branch-2 c =
+    let read : IsRead c.args.version c.args.bytes.now (Some c.in-Some-2.nested) = record {
+      value = view c.in-Some.value;
+      file = view c.in_ok-file.file;
+      json = ap (option_map view) (sym c.in-Some.is) ∙ c.in_ok-value.ensures.json;
+      around = c.in_ok-file.ensures.file;
+      is = sym c.in-Some-2.is ∙ c.in_ok-nested.ensures;
+    } in none_clash c.canonical_texts_are_json.ensures c.args.version c.args.bytes.now c.in-Some-2.nested read
+    (told_no (first_clash (flat_relation c.in-Some-2.nested) ≡ None) (first_clash (flat_relation c.in-Some-2.nested) ≢ None) c.in_ok-is_unclashed.field-0 c.in_ok-is_unclashed.ensures c.if-not-branch-2.true)
+
+pub returns : goal.returns
+returns c =
+    let N = c.in-Some-2.nested in (
+      record {
+        of_version = found_version c.args.version (view c.in-Some.value) N (sym c.in-Some-2.is ∙ c.in_ok-nested.ensures ∙ ap (λ d. nested_found (nodes_of d)) c.in_ok-file.ensures.file);
+        nested = c.nodes.ensures.nested;
+        names = subst (λ nodes. AreNames (names_of nodes)) c.nodes.ensures.nodes c.see_texts.ensures.names;
+        labels = subst (λ nodes. All (λ label. is_label label ≡ true) (labels_of nodes)) c.nodes.ensures.nodes c.see_texts.ensures.labels;
+        texts = subst (λ nodes. All IsUtf8 (labels_of nodes)) c.nodes.ensures.nodes c.see_texts.ensures.texts;
+        unclashed = told_yes (first_clash (flat_relation N) ≡ None) (first_clash (flat_relation N) ≢ None) c.in_ok-is_unclashed.field-0 c.in_ok-is_unclashed.ensures c.if-not-branch-2.false;
+      },
+      told_yes (c.args.bytes.now ≡ graph_text N) (c.args.bytes.now ≢ graph_text N) c.in_ok-is_graph_text.field-0 c.in_ok-is_graph_text.ensures c.if-not-branch.false,
+    )

@@ -1,0 +1,5 @@
+pub mod Accepted
+pub mod File
+pub mod Found
+pub mod Lent
+pub mod Laws

@@ -1,0 +1,28 @@
+ghost use Rattle.std.specs.Prelude.{◌≡◌, ◌≤◌, length, option_map, IfOk, IfSome};
+ghost use Rattle.serde_json.specs.View.{view};
+ghost use Rattle.dcr_size.specs.Laws.{json_in};
+ghost use Rattle.dcr_size.specs.Size.{size};
+
+use dcr_set::NoMemory;
+use serde_json::Value;
+use std::alloc::Global;
+
+/// The most bytes of a canonical text: each text of a graph or a cover within the limits is shorter.
+pub(crate) const MAX_BYTES: usize = 33_554_432;
+
+/// The JSON value that the bytes are. None exactly where they are none.
+pub(crate) fn read_json(alloc: Global, bytes: &[u8]) -> Result<Option<Value>, NoMemory>
+    requires { length bytes.now ≤ 33554432 }
+    ensures json { IfOk result (λ found. option_map view found ≡ json_in bytes.now) }
+    ensures size { IfOk result (λ found. IfSome found (λ value. size (view value) ≤ 33554432)) }
+{
+    match Value::from_slice(alloc, bytes) {
+        Ok(value) => Ok(Some(value)),
+        Err(error) => {
+            if error.is_memory() {
+                return Err(NoMemory);
+            }
+            Ok(None)
+        }
+    }
+}
