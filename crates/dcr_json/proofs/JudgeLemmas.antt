@@ -1,21 +1,18 @@
 -- Which atoms a refusal names, and what a case may be counted on.
-use Rattle.std.proofs.Common.{◌≡◌, ◌≢◌, ◌≤◌, ℕ, ◌<◌, ◌+◌, Bool, true, false, List, [], ◌∷◌, length, map, drop, cond, Option, Some, None, Result, Ok, Err, refl, sym, ap, subst, ◌∙◌, arith, sum_by, nat_le}
-use Rattle.std.specs.List.{All, before_first, after_first, list_all}
-use Rattle.std.specs.Option.{option_map, option_and_then}
-use Rattle.std.proofs.lemmas.Bool.{leb-true, and_parts}
+use Rattle.std.proofs.Common.{◌≡◌, ◌≢◌, ◌≤◌, ℕ, ◌<◌, ◌+◌, Bool, true, false, List, [], ◌∷◌, length, cond, Option, Some, None, Result, Ok, Err, refl, sym, ap, subst, ◌∙◌, sum_by}
+use Rattle.std.specs.List.{All}
+use Rattle.std.specs.Option.{option_map}
 use Rattle.std.proofs.lemmas.List.Sums.{sum_by-cons}
 use Rattle.std.proofs.lemmas.List.Elements.{All-nil, All-cons, All-same, All-head, All-tail}
 use Rattle.std.proofs.lemmas.Option.{option_and_then_some, same_Some}
 use Rattle.dcr_set.specs.Least.{least, some_below}
 use Rattle.dcr_set.proofs.LeastLemmas.{least-some}
 use Rattle.dcr_set.proofs.SetLemmas.{length-those}
-use Rattle.dcr_graph.specs.Names.{number_of}
 use Rattle.dcr_graph.specs.Rules.{Rules}
 use Rattle.dcr_graph.specs.Pairs.{clashes, first_clash}
 use Rattle.dcr_graph.specs.Projection.{HasRoom}
 use Rattle.dcr_nest.specs.Nest.{Nest, parents_of}
 use Rattle.dcr_nest.specs.Tree.{atoms}
-use Rattle.dcr_proj.specs.CoverValue.{Owners}
 use Rattle.dcr_shape.specs.Stages.{◌>>=◌, each_from}
 use Rattle.dcr_shape.specs.declared.stop.LimitKind.TheVariants as kind
 use Rattle.dcr_shape.specs.declared.stop.ReadStop.{ReadStop}
@@ -31,7 +28,6 @@ use Rattle.dcr_cover.specs.declared.text.CoverStop.{CoverStop}
 use Rattle.dcr_cover.specs.declared.text.CoverStop.TheVariants.{SiteName, Owned, Uncovered, NoMemory}
 use Rattle.dcr_journal.specs.Run.{IsInRange}
 use Rattle.dcr_journal.specs.declared.call.Call.{Call}
-use Rattle.dcr_journal.specs.declared.call.Call.TheVariants.{Exec}
 use Rattle.dcr_line.specs.CallLine.{call_in}
 use Rattle.dcr_line.proofs.CallLemmas.{call_told as call_told_is}
 use Rattle.dcr_json.specs.Judged.{call_told, session_told, sessions_told}

@@ -15,6 +15,7 @@ mod tests;
 
 pub use case::{Case, CaseStop};
 pub use dcr_canon::{cover_text, graph_text};
+pub use dcr_reading::{read_cover_text, read_graph_text};
 pub use dcr_shape::{LimitKind, Part};
 pub use laws::when_each_refusal_comes;
 pub use read::read_case;

@@ -1,5 +1,4 @@
-use Rattle.std.proofs.Common.{Ok, List, ℕ, sym, ap, ◌∙◌, arith}
-use Rattle.dcr_line.specs.CallLine.{call_in}
+use Rattle.std.proofs.Common.{Ok, sym, ap, ◌∙◌, arith}
 use Rattle.dcr_json.specs.Judged.{call_told}
 use Rattle.dcr_json.specs.Refusing.{found_or}
 use Rattle.dcr_json.specs.declared.case.CaseStop.TheVariants.{CallLine}

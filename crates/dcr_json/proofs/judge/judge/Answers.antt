@@ -1,4 +1,4 @@
-use Rattle.std.proofs.Common.{◌≤◌, List, length, sum_by, sym, ap, subst, ◌∙◌, arith}
+use Rattle.std.proofs.Common.{List, length, sum_by, sym, ap, subst, ◌∙◌, arith}
 use Rattle.std.specs.List.{All}
 use Rattle.dcr_graph.specs.Projection.{HasRoom}
 use Rattle.dcr_nest.specs.Nest.{parents_of, names_of}

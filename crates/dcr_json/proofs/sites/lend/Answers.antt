@@ -1,4 +1,4 @@
-use Rattle.std.proofs.Common.{◌<◌, ◌^◌, length, sym}
+use Rattle.std.proofs.Common.{◌<◌, ◌^◌, length}
 use Rattle.std.proofs.lemmas.List.Elements.{All-same, All-push}
 use Rattle.dcr_json.specs.Lent.{texts_lent}
 use Rattle.dcr_json.specs.declared.sites.LentSite.{LentSite}
