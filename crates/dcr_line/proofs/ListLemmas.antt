@@ -16,7 +16,7 @@ use Rattle.dcr_set.proofs.NumbersLemmas.{numbers-ascend, numbers-below, numbers-
 use Rattle.dcr_graph.specs.Names.{AreDistinct, is_letter, is_name, is_name_byte, number_of}
 use Rattle.dcr_line.specs.Known.{AreNames}
 use Rattle.dcr_line.specs.Line.{comma_names, list_text, name_of, names_text}
-use Rattle.dcr_line.specs.MarkLine.{ascends_from, each, list_in, listed_in, set_of}
+use Rattle.dcr_line.specs.MarkLine.{ascends_from, each, from_low, list_in, listed_in, set_of}
 use Rattle.dcr_line.specs.PiecesModel.{pieces_of}
 use Rattle.dcr_line.proofs.CallLemmas.{chosen, is_word}
 use Rattle.dcr_line.proofs.NameLemmas.{found_at, name_found, name_lacks}
@@ -89,28 +89,40 @@ listed_is names text = more_is names 0 (no_event (length names)) (pieces_of 44 t
     by_events None = refl
     by_events (Some events) = ap (λ s. cond (ascends_from 0 events) (Some s) None) (fold_none (length names) events)
 
+-- a number from low on
+pub low_found : (low e : ℕ) (o : Option ℕ) → Some e ≡ from_low low o → (o ≡ Some e) × (low ≤ e)
+low_found low e None is = absurd cc
+low_found low e (Some k) is = elim (cases_lt k low) [
+  | inl below ↦ let lost : Some e ≡ None = is ∙ ap (λ t. cond t (Some k) None) (lt-leb low k below) in absurd cc
+  | inr above ↦
+      let same : k ≡ e = sym (same_Some _ _ (is ∙ ap (λ t. cond t (Some k) None) (le-leb low k above))) in
+      (ap Some same, rw (sym same) above)
+]
+
+low_lost : (low e : ℕ) (o : Option ℕ) → None ≡ from_low low o → o ≡ Some e → e < low
+low_lost low e None is found = absurd cc
+low_lost low e (Some k) is found = elim (cases_lt k low) [
+  | inl below ↦ rw (sym (same_Some _ _ found)) below
+  | inr above ↦ let lost : None ≡ Some k = is ∙ ap (λ t. cond t (Some k) None) (le-leb low k above) in absurd cc
+]
+
 -- one name more
-pub more_step : (names : List (List ℕ)) (low : ℕ) (set : Set) (pieces : List (List ℕ)) (piece : List ℕ) (rest : List (List ℕ)) (e : ℕ)
-    → pieces ≡ piece ∷ rest → Some e ≡ number_of names piece → low ≤ e → more_from names low set pieces ≡ more_from names (e + 1) (with_event set e) rest
-more_step names low set pieces piece rest e is named above =
+pub more_found : (names : List (List ℕ)) (low : ℕ) (set : Set) (pieces : List (List ℕ)) (piece : List ℕ) (rest : List (List ℕ)) (e : ℕ)
+    → pieces ≡ piece ∷ rest → Some e ≡ from_low low (number_of names piece) → more_from names low set pieces ≡ more_from names (e + 1) (with_event set e) rest
+more_found names low set pieces piece rest e is found =
+    let named = low_found low e (number_of names piece) found in
     ap (more_from names low set) is
-    ∙ ap (option_and_then (λ f. cond (leb low f) (more_from names (f + 1) (with_event set f) rest) None)) (sym named)
-    ∙ ap (λ t. cond t (more_from names (e + 1) (with_event set e) rest) None) (le-leb low e above)
+    ∙ ap (option_and_then (λ f. cond (leb low f) (more_from names (f + 1) (with_event set f) rest) None)) named.0
+    ∙ ap (λ t. cond t (more_from names (e + 1) (with_event set e) rest) None) (le-leb low e named.1)
 
--- a name that comes too late
-pub more_late : (names : List (List ℕ)) (low : ℕ) (set : Set) (pieces : List (List ℕ)) (piece : List ℕ) (rest : List (List ℕ)) (e : ℕ)
-    → pieces ≡ piece ∷ rest → Some e ≡ number_of names piece → e < low → more_from names low set pieces ≡ None
-more_late names low set pieces piece rest e is named below =
-    ap (more_from names low set) is
-    ∙ ap (option_and_then (λ f. cond (leb low f) (more_from names (f + 1) (with_event set f) rest) None)) (sym named)
-    ∙ ap (λ t. cond t (more_from names (e + 1) (with_event set e) rest) None) (lt-leb low e below)
-
--- a piece that is no name
-pub more_unknown : (names : List (List ℕ)) (low : ℕ) (set : Set) (pieces : List (List ℕ)) (piece : List ℕ) (rest : List (List ℕ))
-    → pieces ≡ piece ∷ rest → None ≡ number_of names piece → more_from names low set pieces ≡ None
-more_unknown names low set pieces piece rest is unknown =
-    ap (more_from names low set) is
-    ∙ ap (option_and_then (λ f. cond (leb low f) (more_from names (f + 1) (with_event set f) rest) None)) (sym unknown)
+-- a piece that is no name, or one that comes too late
+pub more_lost : (names : List (List ℕ)) (low : ℕ) (set : Set) (pieces : List (List ℕ)) (piece : List ℕ) (rest : List (List ℕ))
+    → pieces ≡ piece ∷ rest → None ≡ from_low low (number_of names piece) → more_from names low set pieces ≡ None
+more_lost names low set pieces piece rest is lost = ap (more_from names low set) is ∙ by_number (number_of names piece) lost
+  where
+    by_number : (o : Option ℕ) → None ≡ from_low low o → option_and_then (λ f. cond (leb low f) (more_from names (f + 1) (with_event set f) rest) None) o ≡ None
+    by_number None l = refl
+    by_number (Some k) l = ap (λ t. cond t (more_from names (k + 1) (with_event set k) rest) None) (lt-leb low k (low_lost low k (Some k) l refl))
 
 -- ---- the numbers of the set that was read
 

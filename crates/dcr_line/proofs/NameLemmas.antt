@@ -1,13 +1,14 @@
 -- Names: how they are found, and which bytes are not in them.
-use Rattle.std.proofs.Common.{◌≡◌, ℕ, ◌<◌, true, false, eqb, List, [], ◌∷◌, length, get_or, Some, None, Option, refl, sym, ap, ◌∙◌}
+use Rattle.std.proofs.Common.{◌≡◌, inl, inr, ℕ, ◌<◌, ◌≤◌, true, false, cond, eqb, List, [], ◌∷◌, length, get_or, Some, None, Option, refl, sym, ap, ◌∙◌}
 use Rattle.std.specs.List.{list_all}
 use Rattle.std.specs.Str.{bytes_eq}
 use Rattle.std.specs.Option.{option_map}
-use Rattle.std.proofs.lemmas.Bool.{and_parts, eqb-true, false_from_ne_true, true≢false}
+use Rattle.std.proofs.lemmas.Bool.{and_parts, cases_lt, eqb-true, false_from_ne_true, le-leb, lt-leb, true≢false}
 use Rattle.std.proofs.lemmas.Slice.Eq.{bytes_eq-Decides}
 use Rattle.dcr_set.proofs.LeastLemmas.{least-some, least-from}
 use Rattle.dcr_graph.specs.Names.{AreDistinct, is_name, is_name_byte, is_letter, number_of}
 use Rattle.dcr_line.specs.Line.{name_of}
+use Rattle.dcr_line.specs.MarkLine.{from_low}
 use Rattle.dcr_line.specs.Words.{first_by, name_from}
 use Rattle.dcr_line.proofs.PiecesLemmas.{lacks}
 
@@ -19,11 +20,33 @@ found_at names apart k l = least-from (length names) (λ j. bytes_eq (get_or nam
   none_before = λ j before. apart j k before l;
 })
 
+-- a name is found where the text is it
+pub found_by : (names : List (List ℕ)) → AreDistinct names → (text : List ℕ) (k : ℕ) → k < length names → bytes_eq (get_or names k []) text ≡ true → number_of names text ≡ Some k
+found_by names apart text k l is = ap (number_of names) (sym ((bytes_eq-Decides (get_or names k []) text).0 is)) ∙ found_at names apart k l
+
 -- the number that is found is that of a name, which is the text
 pub name_found : (names : List (List ℕ)) (text : List ℕ) (k : ℕ) → number_of names text ≡ Some k → (k < length names) × (text ≡ get_or names k [])
 name_found names text k e =
     let is = least-some (length names) (λ j. bytes_eq (get_or names j []) text) k e in
     (is.below, sym ((bytes_eq-Decides (get_or names k []) text).0 is.passes))
+
+-- no name from low on is the text
+pub none_from : (names : List (List ℕ)) (text : List ℕ) (low : ℕ) → ((k : ℕ) → low ≤ k → k < length names → bytes_eq (get_or names k []) text ≡ false)
+    → None ≡ from_low low (number_of names text)
+none_from names text low none = by_number (number_of names text) refl
+  where
+    by_number : (o : Option ℕ) → number_of names text ≡ o → None ≡ from_low low o
+    by_number None e = refl
+    by_number (Some k) e =
+        let is = least-some (length names) (λ j. bytes_eq (get_or names j []) text) k e in
+        elim (cases_lt k low) [
+          | inl below ↦ sym (ap (λ t. cond t (Some k) None) (lt-leb low k below))
+          | inr above ↦ absurd (true≢false (sym is.passes ∙ none k above is.below))
+        ]
+
+-- a number from low on that was found
+pub some_from : (low k : ℕ) (o : Option ℕ) → o ≡ Some k → low ≤ k → Some k ≡ from_low low o
+some_from low k o is above = sym (ap (from_low low) is ∙ ap (λ t. cond t (Some k) None) (le-leb low k above))
 
 letter_is_name_byte : (b : ℕ) → is_letter b ≡ true → is_name_byte b ≡ true
 letter_is_name_byte b e = rw e refl

@@ -58,3 +58,10 @@ abbrev pub MarksAreRead : Type 0
 MarksAreRead = (names : List (List ℕ)) → AreNames names → (text : List ℕ) (mark : SiteMark)
     → (mark_in names text ≡ Some mark)
     ↔ (FitsAtoms (length names) mark.executed mark.pending mark.included × (text ≡ mark_text names mark.executed mark.pending mark.included))
+
+-- ---- for private clauses
+
+-- a number that was found, where it is at least low
+abbrev pub from_low : ℕ → Option ℕ → Option ℕ
+from_low low None = None
+from_low low (Some e) = if nat_le low e then Some e else None

@@ -97,8 +97,8 @@ fn site_named(name: &[u8], cover: &Cover) -> Option<SiteId>
     None
 }
 
-/// The atom with this name.
-pub(crate) fn atom_named(name: &[u8], graph: &Graph) -> Option<EventId>
+// The atom with this name.
+fn atom_named(name: &[u8], graph: &Graph) -> Option<EventId>
     ensures { result ≡ number_of graph.now.names name.now }
 {
     for number in 0..graph.atoms() {

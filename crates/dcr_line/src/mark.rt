@@ -1,12 +1,12 @@
 ghost use Rattle.std.specs.Prelude.{◌≡◌, length, option_map, IfSome};
 ghost use Rattle.dcr_line.specs.Fits.{FitsAtoms};
 ghost use Rattle.dcr_line.specs.Words.{first_by, behind};
-ghost use Rattle.dcr_line.specs.MarkLine.{listed_in, list_in, list_from, mark_from, mark_in};
+ghost use Rattle.dcr_graph.specs.Names.{number_of};
+ghost use Rattle.dcr_line.specs.MarkLine.{from_low, listed_in, list_in, list_from, mark_from, mark_in};
 
-use crate::call::atom_named;
 use crate::pieces::Pieces;
 use dcr_graph::{Graph, SiteMark};
-use dcr_set::EventSet;
+use dcr_set::{EventId, EventSet};
 
 /// The marks of a site that a text tells: the lists of the executed, the pending and the included atoms,
 /// each behind its word, with one space between each two words. A list is names of atoms in ascending order
@@ -86,12 +86,23 @@ fn read_names(text: &[u8], graph: &Graph) -> Option<EventSet>
     let mut set = EventSet::new(graph.atoms());
     let mut low = 0;
     for name in Pieces::of(text, b',') {
-        let e = atom_named(name, graph)?;
-        if e.0 < low {
-            return None;
-        }
+        let e = atom_from(low, name, graph)?;
         set.insert(e);
         low = e.0 + 1;
     }
     Some(set)
+}
+
+// The atom with this name, where its number is at least `low`. Names are distinct, so that those below need not be
+// looked at.
+fn atom_from(low: u16, name: &[u8], graph: &Graph) -> Option<EventId>
+    ensures { result ≡ from_low low (number_of graph.now.names name.now) }
+{
+    for number in low..graph.atoms() {
+        let e = EventId(number);
+        if graph.name(e).text().as_bytes() == name {
+            return Some(e);
+        }
+    }
+    None
 }

@@ -1,6 +1,7 @@
 use Rattle.std.proofs.Common.{length, sym, ap, ◌∙◌, arith}
 use Rattle.dcr_set.specs.EventSet.{no_event}
-use Rattle.dcr_line.proofs.ListLemmas.{listed_is, more_from}
+use Rattle.dcr_graph.specs.Names.{number_of}
+use Rattle.dcr_line.proofs.ListLemmas.{listed_is, low_found, more_from}
 use Rattle.dcr_line.proofs.NameLemmas.{name_found}
 use Rattle.dcr_line.proofs.mark.read_names.Goals as goal
 
@@ -17,10 +18,10 @@ loop-name-init c =
 
 pub insert-requires : goal.insert-requires
 insert-requires c =
-    let below = (name_found c.args.graph.now.names c.in-Some.name.now c.in_ok-e.e (sym c.atom_named.ensures ∙ c.in_ok-e.was)).0 in
+    let below = (name_found c.args.graph.now.names c.in-Some.name.now c.in_ok-e.e (low_found c.loop-name.low c.in_ok-e.e (number_of c.args.graph.now.names c.in-Some.name.now) (sym c.in_ok-e.was ∙ c.atom_from.ensures)).0).0 in
     omega (arith, c.loop-name.invariant.room)
 
 pub overflow_add-low : goal.overflow_add-low
 overflow_add-low c =
-    let below = (name_found c.args.graph.now.names c.in-Some.name.now c.in_ok-e.e (sym c.atom_named.ensures ∙ c.in_ok-e.was)).0 in
-    omega (arith, c.atoms.ensures.most, c.e-in-loop-name.view_is)
+    let below = (name_found c.args.graph.now.names c.in-Some.name.now c.in_ok-e.e (low_found c.loop-name.low c.in_ok-e.e (number_of c.args.graph.now.names c.in-Some.name.now) (sym c.in_ok-e.was ∙ c.atom_from.ensures)).0).0 in
+    omega (arith, c.atoms.ensures.most, c.e.view_is)
