@@ -16,6 +16,8 @@ pub enum Status {
     WriteFault,
     /// Memory was wanted and could not be had.
     NoMemory,
+    /// The report that was read is not that of a legal history.
+    Invalid,
 }
 
 impl Status {
@@ -30,6 +32,7 @@ impl Status {
             Status::ReadFault => 4,
             Status::WriteFault => 5,
             Status::NoMemory => 6,
+            Status::Invalid => 8,
         }
     }
 }
