@@ -1,0 +1,44 @@
+-- What a run keeps after one entry more.
+use Rattle.std.proofs.Common.{◌≡◌, ℕ, ◌+◌, ◌<◌, inl, inr, Bool, true, false, cond, eqb, ◌||◌, List, [], ◌∷◌, ◌++◌, length, get_or, set, sym, ap, ◌∙◌}
+use Rattle.std.proofs.Math.Bool.{or-false}
+use Rattle.std.proofs.Math.Nat.{add-zero}
+use Rattle.std.proofs.lemmas.Bool.{cases_eq, eq-eqb, ne_eqb}
+use Rattle.std.proofs.lemmas.List.{get_or_default, get_or-set_same, get_or-set_other}
+use Rattle.std.proofs.lemmas.List.Folds.{list_any-append}
+use Rattle.std.proofs.lemmas.List.Sums.{fold_push, sum_by_push}
+use Rattle.dcr_graph.specs.Rules.{Rules}
+use Rattle.dcr_graph.specs.declared.marking.Marking.{Marking}
+use Rattle.dcr_journal.specs.Run.{stepped_by, after, made_by}
+use Rattle.dcr_journal.specs.declared.call.Entry.{Entry}
+use Rattle.dcr_replay.specs.EntryLines.{is_faulted, has_fault}
+
+-- the marking
+pub after_next : (G : Rules) (M : Marking) (J : List Entry) (entry : Entry) → after G M (J ++ entry ∷ []) ≡ stepped_by G (after G M J) entry.call entry.outcome
+after_next G M J entry = fold_push (λ N (e : Entry). stepped_by G N e.call e.outcome) M J entry
+
+-- one entry is a fault: the last, where there was none before
+pub fault_next : (J : List Entry) (entry : Entry) → has_fault J ≡ false → has_fault (J ++ entry ∷ []) ≡ is_faulted entry.outcome
+fault_next J entry none =
+    list_any-append (λ (e : Entry). is_faulted e.outcome) J (entry ∷ []) ∙ ap (λ b. b || (is_faulted entry.outcome || false)) none
+    ∙ or-false (is_faulted entry.outcome)
+
+-- how many entries a session has
+made_next : (session : ℕ) (J : List Entry) (entry : Entry) (b : Bool) → eqb entry.session session ≡ b → made_by session (J ++ entry ∷ []) ≡ made_by session J + cond b 1 0
+made_next session J entry b e = sum_by_push (λ (x : Entry). cond (eqb x.session session) 1 0) J entry ∙ ap (λ t. made_by session J + cond t 1 0) e
+
+made_one : (session : ℕ) (J : List Entry) (entry : Entry) → entry.session ≡ session → made_by session (J ++ entry ∷ []) ≡ made_by session J + 1
+made_one session J entry same = made_next session J entry true (eq-eqb entry.session session same)
+
+made_none : (session : ℕ) (J : List Entry) (entry : Entry) → (entry.session ≡ session → ⊥) → made_by session (J ++ entry ∷ []) ≡ made_by session J
+made_none session J entry other = made_next session J entry false (ne_eqb entry.session session other) ∙ add-zero (made_by session J)
+
+-- the count of the entry's session is raised
+pub counts_next : (made : List ℕ) (J : List Entry) (entry : Entry) (n session d : ℕ) → entry.session < length made → n ≡ get_or made entry.session d + 1
+    → get_or made session 0 ≡ made_by session J → get_or (set made entry.session n) session 0 ≡ made_by session (J ++ entry ∷ [])
+counts_next made J entry n session d within raised before = elim (cases_eq entry.session session) [
+  | inl same ↦
+      ap (λ k. get_or (set made entry.session n) k 0) (sym same) ∙ get_or-set_same made entry.session n 0 within
+      ∙ raised ∙ ap (λ k. k + 1) (get_or_default made entry.session d 0 within ∙ ap (λ k. get_or made k 0) same ∙ before) ∙ sym (made_one session J entry same)
+  | inr other ↦
+      get_or-set_other made entry.session session n 0 (λ e. other (sym e)) ∙ before ∙ sym (made_none session J entry other)
+]

@@ -1,0 +1,14 @@
+pub mod LinesLemmas
+pub mod TrackedLemmas
+pub mod EndLemmas
+pub mod CountLemmas
+pub mod SiteLineLemmas
+pub mod CheckLemmas
+mod LawLemmasLines
+mod LawLemmasTexts
+mod LawLemmasHead
+mod LawLemmasEnds
+mod LawLemmasEntries
+mod LawLemmasRuns
+mod LawLemmas
+mod LawLemmasOne

@@ -1,0 +1,11 @@
+pub mod Cut
+pub mod LinesModel
+pub mod HeadLines
+pub mod EntryLines
+pub mod EndLines
+pub mod FirstWrong
+pub mod Laws
+pub mod OneVerdict
+pub mod Tracks
+pub mod Stands
+pub mod Words

@@ -1,0 +1,134 @@
+ghost use Rattle.std.specs.Prelude.{◌≡◌, [], length, IfOk, None};
+ghost use Rattle.std.specs.List.{All};
+ghost use Rattle.dcr_graph.specs.GraphValue.{rules_of};
+ghost use Rattle.dcr_graph.specs.Pairs.{first_clash};
+ghost use Rattle.dcr_graph.specs.Projection.{HasRoom};
+ghost use Rattle.dcr_nest.specs.FlatRelation.{IsFlattening, flat_relation};
+ghost use Rattle.dcr_replay.specs.FirstWrong.{IsVerdict, FromGraph, FromCover, from_opening, run_from, setting};
+ghost use Rattle.dcr_proj.specs.CoverValue.{IsCover};
+
+use crate::ends::check_ends;
+use crate::entries::Run;
+use crate::head::{read_cover, read_graph, read_opening, read_version};
+use crate::lines::Lines;
+use crate::verdict::{Verdict, Wrong};
+use dcr_graph::{Graph, GraphStop, Marking};
+use dcr_nest::{Nested, Version};
+use dcr_proj::Cover;
+use dcr_set::NoMemory;
+use std::alloc::Global;
+
+/// Whether the text is the report of a legal history: valid with the number of its entries, or the first line
+/// that is wrong, counted from 1, with the kind of what is expected there. The history is checked by the plain
+/// engine of the whole graph. `NoMemory` where memory could not be had.
+pub fn check_report(alloc: Global, bytes: &[u8]) -> Result<Verdict, NoMemory>
+    ensures { IfOk result (λ verdict. IsVerdict bytes.now verdict) }
+{
+    let mut lines = Lines::of(bytes);
+    let Some(version) = read_version(&lines) else {
+        return Ok(Verdict::Invalid {
+            line: 1,
+            kind: Wrong::Head,
+        });
+    };
+    lines.pass();
+    check_graph(alloc, version, &mut lines)
+}
+
+// The verdict from the line of the graph on.
+fn check_graph(alloc: Global, version: Version, lines: &mut Lines<'_>) -> Result<Verdict, NoMemory>
+    ensures { IfOk result (λ verdict. FromGraph version lines.old verdict) }
+{
+    let Some(nested) = read_graph(alloc, lines, version)? else {
+        return Ok(Verdict::Invalid {
+            line: 2,
+            kind: Wrong::Graph,
+        });
+    };
+    lines.pass();
+    let graph = flat(alloc, &nested)?;
+    check_cover(alloc, &nested, &graph, lines)
+}
+
+// The flattening of a nested graph without a clash.
+fn flat(alloc: Global, nested: &Nested) -> Result<Graph, NoMemory>
+    requires { first_clash (flat_relation nested.now) ≡ None }
+    ensures { IfOk result (λ graph. IsFlattening nested.now graph) }
+{
+    match nested.flatten(alloc) {
+        Ok(graph) => Ok(graph),
+        Err(GraphStop::NoMemory) => Err(NoMemory),
+        Err(GraphStop::Clash { .. }) => unreachable!(),
+    }
+}
+
+// The verdict from the line of the cover on.
+fn check_cover(
+    alloc: Global,
+    nested: &Nested,
+    graph: &Graph,
+    lines: &mut Lines<'_>,
+) -> Result<Verdict, NoMemory>
+    requires { IsFlattening nested.now graph.now }
+    ensures { IfOk result (λ verdict. FromCover nested.now lines.old verdict) }
+{
+    let Some(cover) = read_cover(alloc, lines, nested, graph)? else {
+        return Ok(Verdict::Invalid {
+            line: 3,
+            kind: Wrong::Cover,
+        });
+    };
+    lines.pass();
+    check_opening(alloc, graph, &cover, lines)
+}
+
+// The verdict from the line of the opening marking on.
+fn check_opening(
+    alloc: Global,
+    graph: &Graph,
+    cover: &Cover,
+    lines: &mut Lines<'_>,
+) -> Result<Verdict, NoMemory>
+    requires rooms { All (λ set. length set ≡ length graph.now.names) cover.now.owned }
+    requires cover { IsCover cover.now }
+    ensures { IfOk result (λ verdict. verdict ≡ from_opening (rules_of graph.now) graph.now.names cover.now lines.old) }
+{
+    let Some(opening) = read_opening(lines, graph) else {
+        return Ok(Verdict::Invalid {
+            line: 4,
+            kind: Wrong::Opening,
+        });
+    };
+    lines.pass();
+    check_run(alloc, graph, cover, &opening, lines)
+}
+
+// The verdict from the first entry on.
+fn check_run(
+    alloc: Global,
+    graph: &Graph,
+    cover: &Cover,
+    opening: &Marking,
+    lines: &mut Lines<'_>,
+) -> Result<Verdict, NoMemory>
+    requires rooms { All (λ set. length set ≡ length graph.now.names) cover.now.owned }
+    requires cover { IsCover cover.now }
+    requires opening { HasRoom (length graph.now.names) opening.now }
+    ensures { IfOk result (λ verdict. verdict
+        ≡ run_from (setting (rules_of graph.now) graph.now.names cover.now opening.now) [] lines.old) }
+{
+    let mut run = Run::open(alloc, graph, cover, opening)?;
+    while let Some(line) = lines.first() {
+        if !line.begins_with_digit() {
+            break;
+        }
+        if let Some(kind) = run.take(alloc, line)? {
+            return Ok(Verdict::Invalid {
+                line: run.len + 5,
+                kind,
+            });
+        }
+        lines.pass();
+    }
+    check_ends(alloc, &run, lines)
+}

@@ -1,0 +1,181 @@
+// The lines of entries, checked one after the other.
+ghost use Rattle.std.specs.Prelude.{◌≡◌, ◌+◌, ◌<◌, ◌≤◌, ◌&&◌, [], ◌∷◌, ◌++◌, List, length, IfOk, IfSome, Bool, false, slice_index_or};
+ghost use Rattle.std.specs.List.{All};
+ghost use Rattle.dcr_graph.specs.GraphValue.{rules_of};
+ghost use Rattle.dcr_graph.specs.Projection.{HasRoom};
+ghost use Rattle.dcr_journal.specs.Run.{stepped_by};
+ghost use Rattle.dcr_journal.specs.declared.call.Entry.{Entry};
+ghost use Rattle.dcr_line.specs.Fits.{FitsEntry};
+ghost use Rattle.dcr_replay.specs.Cut.{line_of};
+ghost use Rattle.dcr_replay.specs.EntryLines.{Setting, is_done, is_faulted, entry_after, is_answered, answer_after};
+ghost use Rattle.dcr_replay.specs.FirstWrong.{setting};
+ghost use Rattle.dcr_replay.specs.Stands.{IsSound, Stands, Takes};
+ghost use Rattle.dcr_proj.specs.CoverValue.{IsCover};
+
+use crate::answer::answer;
+use crate::lines::Line;
+use crate::tracked::{Tracked, tracked_by_each};
+use crate::verdict::Wrong;
+use dcr_graph::{Graph, Marking};
+use dcr_journal::{Call, Entry, Outcome};
+use dcr_line::{read_entry, write_entry};
+use dcr_mark::Plain;
+use dcr_proj::Cover;
+use dcr_set::NoMemory;
+use std::alloc::Global;
+
+// How many entries a history has at most.
+const MOST_ENTRIES: u32 = 200_000;
+
+// How many sessions there are at most.
+const MOST_SESSIONS: usize = 1024;
+
+/// A history under check: the engine at the marking after the entries that were read, and what the next one
+/// must say of itself.
+#[derive(Drop)]
+pub(crate) struct Run<'g> {
+    pub graph: &'g Graph,
+    pub cover: &'g Cover,
+    pub tracked: Vec<Tracked>,
+    pub plain: Plain<'g>,
+    // How many entries each session has.
+    pub made: Vec<u32>,
+    pub len: u32,
+    // The last entry is a fault: none comes after it.
+    pub faulted: bool,
+}
+
+impl<'g> Run<'g> {
+    /// No entry yet.
+    pub(crate) fn open(
+        alloc: Global,
+        graph: &'g Graph,
+        cover: &'g Cover,
+        opening: &Marking,
+    ) -> Result<Run<'g>, NoMemory>
+        requires rooms { All (λ set. length set ≡ length graph.now.names) cover.now.owned }
+        requires cover { IsCover cover.now }
+        requires opening { HasRoom (length graph.now.names) opening.now }
+        ensures sound { IfOk result IsSound }
+        ensures stands { IfOk result (Stands (setting (rules_of graph.now) graph.now.names cover.now opening.now) []) }
+    {
+        let tracked = tracked_by_each(alloc, graph, cover)?;
+        let plain = Plain::new(alloc, graph, opening)?;
+        let made = vec![in alloc; 0; MOST_SESSIONS]?;
+        Ok(Run {
+            graph,
+            cover,
+            tracked,
+            plain,
+            made,
+            len: 0,
+            faulted: false,
+        })
+    }
+
+    /// Takes the entry that a line tells. Where the answer is a kind, the line is wrong by it, and nothing was
+    /// taken.
+    pub(crate) fn take(&mut self, alloc: Global, line: Line<'_>) -> Result<Option<Wrong>, NoMemory>
+        requires { IsSound self.old }
+        ensures sound { IsSound self.new }
+        ensures taken { IfOk result (λ wrong. (S : Setting) (J : List Entry) → Stands S J self.old
+            → Takes S J (line_of line.entry.text.now line.entry.ended) wrong self.new) }
+        ensures kept { IfOk result (λ wrong. IfSome wrong (λ _. self.new ≡ self.old)) }
+    {
+        let Some(entry) = self.next_entry(line) else {
+            return Ok(Some(Wrong::Entry));
+        };
+        if !self.is_answered(alloc, line.text, &entry)? {
+            return Ok(Some(Wrong::Outcome));
+        }
+        self.count(&entry);
+        Ok(None)
+    }
+
+    // The entry that a line tells, whatever its outcome. None exactly where it tells none that may come next.
+    fn next_entry(&self, line: Line<'_>) -> Option<Entry>
+        requires { IsSound self.now }
+        ensures entry { (S : Setting) (J : List Entry) → Stands S J self.now
+            → result ≡ entry_after S J (line_of line.entry.text.now line.entry.ended) }
+        ensures fits { IfSome result (FitsEntry (length self.now.cover.now.names) (length self.now.graph.now.names)) }
+        ensures open { IfSome result (λ _. self.now.len < 200000) }
+        ensures running { IfSome result (λ _. self.now.faulted ≡ false) }
+        ensures session { IfSome result (λ entry. entry.session < 1024) }
+    {
+        if self.faulted || self.len >= MOST_ENTRIES {
+            return None;
+        }
+        let (place, entry) = read_entry(line.whole()?, self.graph, self.cover)?;
+        let made = *self.made.get(entry.session as usize)?;
+        if place != self.len || entry.seq != made {
+            return None;
+        }
+        Some(entry)
+    }
+
+    // Whether the outcome of the entry that the text tells is the answer, or a fault where the answer is done.
+    fn is_answered(&self, alloc: Global, text: &[u8], entry: &Entry) -> Result<bool, NoMemory>
+        requires sound { IsSound self.now }
+        requires fits { FitsEntry (length self.now.cover.now.names) (length self.now.graph.now.names) entry.now }
+        ensures { IfOk result (λ is. (S : Setting) (J : List Entry) (ended : Bool) → Stands S J self.now
+            → is ≡ is_answered S J (line_of text.now ended) entry.now (answer_after S J entry.now.call)) }
+    {
+        let outcome = answer(&self.plain, self.cover, &self.tracked, &entry.call);
+        if is_done(&outcome) && is_faulted(&entry.outcome) {
+            return Ok(true);
+        }
+        let told = Entry {
+            session: entry.session,
+            seq: entry.seq,
+            call: entry.call,
+            outcome,
+        };
+        let mut line = Vec::with_capacity(alloc, text.len())?;
+        write_entry(self.len, &told, self.graph, self.cover, &mut line)?;
+        Ok(line.as_slice() == text)
+    }
+
+    // Counts the entry, and steps the marking where it was done.
+    fn count(&mut self, entry: &Entry)
+        requires sound { IsSound self.old }
+        requires open { self.old.len < 200000 }
+        requires session { entry.now.session < 1024 }
+        requires fits { FitsEntry (length self.old.cover.now.names) (length self.old.graph.now.names) entry.now }
+        requires running { self.old.faulted ≡ false }
+        ensures sound { IsSound self.new }
+        ensures stands { (S : Setting) (J : List Entry) → Stands S J self.old → Stands S (J ++ entry.now ∷ []) self.new }
+    {
+        step(&mut self.plain, self.cover, entry);
+        self.faulted = is_faulted(&entry.outcome);
+        self.made[entry.session as usize] += 1;
+        self.len += 1;
+    }
+}
+
+// Steps the marking by the event of the entry, where that was done.
+fn step(plain: &mut Plain<'_>, cover: &Cover, entry: &Entry)
+    requires { FitsEntry (length cover.now.names) (length plain.old.graph.names) entry.now }
+    ensures graph { plain.new.graph ≡ plain.old.graph }
+    ensures marking { plain.new.marking
+        ≡ stepped_by (rules_of plain.old.graph) plain.old.marking entry.now.call entry.now.outcome }
+{
+    if let Call::Exec(_, e) = entry.call {
+        if is_done(&entry.outcome) {
+            plain.execute(e);
+        }
+    }
+}
+
+// Whether the outcome is that of an event that was executed.
+fn is_done(outcome: &Outcome) -> bool
+    ensures { result ≡ is_done outcome.now }
+{
+    matches!(outcome, Outcome::Done)
+}
+
+// Whether the outcome is a fault.
+fn is_faulted(outcome: &Outcome) -> bool
+    ensures { result ≡ is_faulted outcome.now }
+{
+    matches!(outcome, Outcome::Faulted)
+}

@@ -1,0 +1,86 @@
+// The four lines before the entries.
+ghost use Rattle.std.specs.Prelude.{◌≡◌, length, option_map, IfOk, IfSome};
+ghost use Rattle.dcr_graph.specs.Projection.{HasRoom};
+ghost use Rattle.dcr_nest.specs.FlatRelation.{IsFlattening};
+ghost use Rattle.dcr_replay.specs.HeadLines.{first_text, first_behind, version_at, IsGraphAt, IsCoverAt, opening_at};
+
+use crate::lines::{Lines, behind};
+use dcr_graph::{Graph, Marking};
+use dcr_line::read_mark;
+use dcr_nest::{Nested, Version};
+use dcr_proj::Cover;
+use dcr_reading::{read_cover_text, read_graph_text};
+use dcr_set::NoMemory;
+use std::alloc::Global;
+
+/// The version that the first line tells. None exactly where it tells none.
+pub(crate) fn read_version(lines: &Lines<'_>) -> Option<Version>
+    ensures { result ≡ version_at lines.now }
+{
+    let text = first_text(lines)?;
+    if text == b"dcr 1".as_slice() {
+        return Some(Version::V1);
+    }
+    if text == b"dcr 2".as_slice() {
+        return Some(Version::V2);
+    }
+    None
+}
+
+/// The graph of this version that the first line tells. None exactly where it tells none that is accepted.
+pub(crate) fn read_graph(
+    alloc: Global,
+    lines: &Lines<'_>,
+    version: Version,
+) -> Result<Option<Nested>, NoMemory>
+    ensures { IfOk result (λ found. IsGraphAt version lines.now found) }
+{
+    let Some(text) = first_behind(lines, b"graph ") else {
+        return Ok(None);
+    };
+    read_graph_text(alloc, text, version)
+}
+
+/// The cover of the graph that the first line tells. None exactly where it tells none that is accepted.
+pub(crate) fn read_cover(
+    alloc: Global,
+    lines: &Lines<'_>,
+    nested: &Nested,
+    graph: &Graph,
+) -> Result<Option<Cover>, NoMemory>
+    requires { IsFlattening nested.now graph.now }
+    ensures { IfOk result (λ found. IsCoverAt nested.now lines.now found) }
+{
+    let Some(text) = first_behind(lines, b"cover ") else {
+        return Ok(None);
+    };
+    read_cover_text(alloc, text, nested, graph)
+}
+
+/// The marking of the atoms that the first line tells. None exactly where it tells none.
+pub(crate) fn read_opening(lines: &Lines<'_>, graph: &Graph) -> Option<Marking>
+    ensures opening { result ≡ opening_at graph.now.names lines.now }
+    ensures room { IfSome result (HasRoom (length graph.now.names)) }
+{
+    let text = first_behind(lines, b"open ")?;
+    let mark = read_mark(text, graph)?;
+    Some(Marking {
+        executed: mark.executed,
+        pending: mark.pending,
+        included: mark.included,
+    })
+}
+
+// The text of the first line, where there is one and it has its end.
+fn first_text<'a>(lines: &Lines<'a>) -> Option<&'a [u8]>
+    ensures { option_map (λ text. text.now) result ≡ first_text lines.now }
+{
+    lines.first()?.whole()
+}
+
+// What the first line says behind a word.
+fn first_behind<'a>(lines: &Lines<'a>, word: &[u8]) -> Option<&'a [u8]>
+    ensures { option_map (λ text. text.now) result ≡ first_behind word.now lines.now }
+{
+    behind(first_text(lines)?, word)
+}

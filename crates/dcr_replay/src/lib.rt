@@ -1,0 +1,19 @@
+//! The replay of a report: whether a text is the report of a legal history, or else which of its lines is the
+//! first wrong one. The plain engine of the whole graph decides; it knows no site.
+#![tactic(auto)]
+
+mod answer;
+mod check;
+mod ends;
+mod entries;
+mod head;
+mod laws;
+mod lines;
+#[cfg(test)]
+mod tests;
+mod tracked;
+mod verdict;
+
+pub use check::check_report;
+pub use laws::{a_text_has_one_verdict, valid_is_report};
+pub use verdict::{Verdict, Wrong};
