@@ -1,75 +1,91 @@
--- Ends without a run.
-use Rattle.std.proofs.Common.{◌≡◌, ◌≢◌, ℕ, ◌<◌, List, [], length, Option, Some, None, Result, Ok, Err, IfSome, inr, refl, sym, ap, subst, take, arith, cond}
+-- Ends by the table.
+use Rattle.std.proofs.Common.{◌≡◌, ℕ, ◌<◌, List, [], length, Option, Some, None, inl, inr, refl, sym, subst, take}
 use Rattle.std.specs.Io.KnownBytes.{Appends}
-use Rattle.std.proofs.lemmas.Bool.{lt-leb}
-use Rattle.std.proofs.lemmas.List.{append-nil, take_all}
-use Rattle.dcr_base.specs.declared.status.Status.TheVariants.{NoMemory}
-use Rattle.dcr_json.specs.Case.{case_in}
-use Rattle.dcr_json.specs.Judged.{Spelled}
-use Rattle.dcr_shape.specs.Stages.{◌>>=◌}
-use Rattle.dcr_json.specs.declared.case.CaseStop.{CaseStop}
-use Rattle.dcr_json.specs.declared.case.CaseStop.TheVariants.{TooLong, NotJson}
-use Rattle.dcr_json.specs.declared.case.CaseStop.TheVariants as stop
-use Rattle.dcr_app.specs.Ends.{Answers, Told, Runs, Refuses, Wrote}
-use Rattle.dcr_app.specs.Refusal.{refusal_line}
+use Rattle.std.proofs.lemmas.List.{append-nil}
+use Rattle.dcr_base.specs.declared.status.Status.{Status}
+use Rattle.dcr_base.specs.declared.status.Status.TheVariants.{Done, Usage, Refused, ReadFault, WriteFault, NoMemory, Invalid}
+use Rattle.dcr_app.specs.Due.{Due, IsDue, line_due}
+use Rattle.dcr_app.specs.Ends.{Whole, NotAll, Front, Nothing, EndsAs, Ends, IsWhole}
 use Rattle.dcr_app.specs.declared.app.End.{End}
+use Rattle.dcr_app.specs.declared.command.Command.{Command}
 
-pub appends_nothing : (a : Option (List ℕ)) → Appends a a []
+appends_nothing : (a : Option (List ℕ)) → Appends a a []
 appends_nothing None = tt
 appends_nothing (Some xs) = sym (append-nil xs)
 
-stops : {A B : Type 0} (o : Result A CaseStop) (f : A → Result B CaseStop) (why : CaseStop) → o ≡ Err why → (o >>= f) ≡ Err why
-stops o f why is = ap (λ r. r >>= f) is
+abbrev pub ended : Status → End
+ended status = record { status = status; closed = None }
 
-too_long : (bytes : List ℕ) → 16777216 < length bytes → case_in bytes ≡ Err TooLong
-unfolding case_in
-too_long bytes more = stops _ _ TooLong (ap (λ t. cond t (Ok bytes) (Err TooLong)) (lt-leb (length bytes) 16777216 more))
-
-pub too_long_told : (left : Option (List ℕ)) → IfSome left (λ bytes. 16777216 < length bytes) → IfSome left (λ bytes. case_in bytes ≡ Err TooLong)
-too_long_told None more = tt
-too_long_told (Some bytes) more = too_long bytes more
-
-starved_at : (case : Result Spelled CaseStop) (before : Option (List ℕ)) → Answers case before before (record { status = NoMemory; closed = None })
-starved_at (Ok case) before = (refl, appends_nothing before)
-starved_at (Err why) before = record { status = inr (inr refl); line = record { closed = refl; wrote = (0, appends_nothing before) } }
+pub nothing : (status : Status) (before : Option (List ℕ)) → Nothing before before (ended status)
+nothing status before = record { closed = refl; wrote = appends_nothing before }
 
 -- memory ran out before anything was written
-pub starved : (left before : Option (List ℕ)) → Told left before before (record { status = NoMemory; closed = None })
-starved None before = record { case = Err NotJson; spelled = tt; answers = starved_at (Err NotJson) before }
-starved (Some bytes) before = record { case = case_in bytes; spelled = refl; answers = starved_at (case_in bytes) before }
+pub starved : (P : Due → Type 0) (before : Option (List ℕ)) → Ends P before before (ended NoMemory)
+starved P before = inl (nothing NoMemory before)
 
-nothing_of : (n : ℕ) (before after : Option (List ℕ)) → Appends before after (take n []) → Appends before after []
-nothing_of n before after is = subst (Appends before after) (take_all n [] (omega arith)) is
+-- ---- what is due has P, and so it has Q
 
-starved_end : (case : Result Spelled CaseStop) (before after : Option (List ℕ)) (end : End) → end.status ≡ NoMemory → Refuses stop.NoMemory before after end → Answers case before after end
-starved_end (Ok case) before after end status r =
-    let wrote = subst (λ s. Wrote s [] before after) status r.line.wrote in
-    subst (λ o. Runs case o before after end.status) (sym r.line.closed) (status, nothing_of wrote.0 before after wrote.1)
-starved_end (Err why) before after end status r =
-    let wrote = subst (λ s. Wrote s [] before after) status r.line.wrote in
-    record {
-      status = inr (inr status);
-      line = record { closed = r.line.closed; wrote = subst (λ s. Wrote s (refusal_line why) before after) (sym status) (0, nothing_of wrote.0 before after wrote.1) };
-    }
+whole_so : (P Q : Due → Type 0) → ((due : Due) → P due → Q due) → (before after : Option (List ℕ)) (end : End) → Whole P before after end → Whole Q before after end
+whole_so P Q so before after end w = record { due = w.due; is = so w.due w.is; status = w.status; closed = w.closed; wrote = w.wrote }
 
--- a refusal that the definition says is answered
-by_name : (why : CaseStop) (case : Result Spelled CaseStop) (before after : Option (List ℕ)) (end : End) → case ≡ Err why → Refuses why before after end → Answers case before after end
-by_name why case before after end says r = subst (λ k. Answers k before after end) (sym says) r
+not_all_so : (P Q : Due → Type 0) → ((due : Due) → P due → Q due) → (before after : Option (List ℕ)) (end : End) → NotAll P before after end → NotAll Q before after end
+not_all_so P Q so before after end w =
+    record { due = w.due; is = so w.due w.is; closed = w.closed; count = w.count; fewer = w.fewer; wrote = w.wrote }
 
--- a refusal of the reader is answered
-pub refused : (why : CaseStop) (case : Result Spelled CaseStop) (before after : Option (List ℕ)) (end : End) → (why ≢ stop.NoMemory → case ≡ Err why) → Refuses why before after end
-    → (why ≡ stop.NoMemory → end.status ≡ NoMemory) → Answers case before after end
-refused stop.NoMemory case before after end says r starves = starved_end case before after end (starves refl) r
-refused stop.TooLong case before after end says r starves = by_name stop.TooLong case before after end (says (λ e. absurd cc)) r
-refused stop.NotJson case before after end says r starves = by_name stop.NotJson case before after end (says (λ e. absurd cc)) r
-refused (stop.Shape part i) case before after end says r starves = by_name (stop.Shape part i) case before after end (says (λ e. absurd cc)) r
-refused (stop.Limit kind n) case before after end says r starves = by_name (stop.Limit kind n) case before after end (says (λ e. absurd cc)) r
-refused (stop.EventName i) case before after end says r starves = by_name (stop.EventName i) case before after end (says (λ e. absurd cc)) r
-refused (stop.Parent i) case before after end says r starves = by_name (stop.Parent i) case before after end (says (λ e. absurd cc)) r
-refused (stop.MarkOnNest i) case before after end says r starves = by_name (stop.MarkOnNest i) case before after end (says (λ e. absurd cc)) r
-refused (stop.RelationEnd i) case before after end says r starves = by_name (stop.RelationEnd i) case before after end (says (λ e. absurd cc)) r
-refused (stop.Clash a b) case before after end says r starves = by_name (stop.Clash a b) case before after end (says (λ e. absurd cc)) r
-refused (stop.SiteName i) case before after end says r starves = by_name (stop.SiteName i) case before after end (says (λ e. absurd cc)) r
-refused (stop.Owned i j) case before after end says r starves = by_name (stop.Owned i j) case before after end (says (λ e. absurd cc)) r
-refused (stop.Uncovered a) case before after end says r starves = by_name (stop.Uncovered a) case before after end (says (λ e. absurd cc)) r
-refused (stop.CallLine k j) case before after end says r starves = by_name (stop.CallLine k j) case before after end (says (λ e. absurd cc)) r
+front_so : (P Q : Due → Type 0) → ((due : Due) → P due → Q due) → (before after : Option (List ℕ)) (end : End) → Front P before after end → Front Q before after end
+front_so P Q so before after end w = record { due = w.due; is = so w.due w.is; closed = w.closed; count = w.count; wrote = w.wrote }
+
+as_so : (status : Status) (P Q : Due → Type 0) → ((due : Due) → P due → Q due) → (before after : Option (List ℕ)) (end : End)
+    → EndsAs status P before after end → EndsAs status Q before after end
+as_so Done P Q so before after end w = whole_so P Q so before after end w
+as_so Usage P Q so before after end w = whole_so P Q so before after end w
+as_so Refused P Q so before after end w = whole_so P Q so before after end w
+as_so Invalid P Q so before after end w = whole_so P Q so before after end w
+as_so ReadFault P Q so before after end w = w
+as_so WriteFault P Q so before after end w = not_all_so P Q so before after end w
+as_so NoMemory P Q so before after end (inl w) = inl w
+as_so NoMemory P Q so before after end (inr w) = inr (front_so P Q so before after end w)
+
+pub ends_so : (P Q : Due → Type 0) → ((due : Due) → P due → Q due) → (before after : Option (List ℕ)) (end : End) → Ends P before after end → Ends Q before after end
+ends_so P Q so before after end w = as_so end.status P Q so before after end w
+
+-- what is due to a command, by its name
+pub due_by : (command named : Option Command) (left before after : Option (List ℕ)) (end : End) → command ≡ named → Ends (IsDue named left) before after end
+    → Ends (IsDue command left) before after end
+due_by command named left before after end is w = subst (λ c. Ends (IsDue c left) before after end) (sym is) w
+
+-- ---- a line
+
+abbrev pub IsLine : Status → List ℕ → Due → Type 0
+IsLine status line due = due ≡ line_due status line
+
+line_whole : (status : Status) (line : List ℕ) (before after : Option (List ℕ)) → Appends before after line
+    → Whole (IsLine status line) before after (ended status)
+line_whole status line before after wrote = record { due = line_due status line; is = refl; status = refl; closed = refl; wrote = wrote }
+
+pub line_said : (status : Status) (line : List ℕ) (before after : Option (List ℕ)) → IsWhole status → Appends before after line
+    → Ends (IsLine status line) before after (ended status)
+line_said Done line before after whole wrote = line_whole Done line before after wrote
+line_said Usage line before after whole wrote = line_whole Usage line before after wrote
+line_said Refused line before after whole wrote = line_whole Refused line before after wrote
+line_said Invalid line before after whole wrote = line_whole Invalid line before after wrote
+line_said ReadFault line before after whole wrote = elim whole [ ]
+line_said WriteFault line before after whole wrote = elim whole [ ]
+line_said NoMemory line before after whole wrote = elim whole [ ]
+
+pub line_failed : (status : Status) (line : List ℕ) (count : ℕ) (before after : Option (List ℕ)) → count < length line → Appends before after (take count line)
+    → Ends (IsLine status line) before after (ended WriteFault)
+line_failed status line count before after fewer wrote =
+    record { due = line_due status line; is = refl; closed = refl; count = count; fewer = fewer; wrote = wrote }
+
+-- ---- a status that is told
+
+pub whole_at : (status : Status) (P : Due → Type 0) (before after : Option (List ℕ)) (end : End) → IsWhole status → end.status ≡ status
+    → Ends P before after end → Whole P before after end
+whole_at Done P before after end whole is w = subst (λ s. EndsAs s P before after end) is w
+whole_at Usage P before after end whole is w = subst (λ s. EndsAs s P before after end) is w
+whole_at Refused P before after end whole is w = subst (λ s. EndsAs s P before after end) is w
+whole_at Invalid P before after end whole is w = subst (λ s. EndsAs s P before after end) is w
+whole_at ReadFault P before after end whole is w = elim whole [ ]
+whole_at WriteFault P before after end whole is w = elim whole [ ]
+whole_at NoMemory P before after end whole is w = elim whole [ ]

@@ -1,103 +1,97 @@
--- How the program ends: what it wrote on each status, and which answers a case can have.
-use Rattle.std.specs.Prelude.{◌≡◌, ◌⊎◌, ℕ, ◌<◌, List, [], ◌∷◌, codes, length, slice_index_or, take, String, string_bytes, Option, Some, None, Result, Ok, Err, IfSome}
+-- How the program ends: what it wrote on each status.
+use Rattle.std.specs.Prelude.{◌≡◌, ◌⊎◌, ℕ, ◌<◌, ◌≤◌, List, [], ◌∷◌, ◌++◌, codes, decimal, length, take, Option, Some, None, Result, Ok, Err, IfSome, ⊤}
 use Rattle.std.specs.Io.KnownBytes.{Appends}
 use Rattle.std.specs.List.{All}
-use Rattle.std.specs.declared.alloc.Global.{Global}
-use Rattle.dcr_graph.specs.Rules.{Rules}
-use Rattle.dcr_nest.specs.FlatRelation.{flat_relation}
 use Rattle.dcr_base.specs.declared.status.Status.{Status}
-use Rattle.dcr_base.specs.declared.status.Status.TheVariants.{Done, Usage, Refused, ReadFault, WriteFault, NoMemory}
-use Rattle.dcr_journal.specs.Run.{calls_of, IsLegal}
+use Rattle.dcr_base.specs.declared.status.Status.TheVariants.{Done, Usage, Refused, ReadFault, WriteFault, NoMemory, Invalid}
 use Rattle.dcr_journal.specs.declared.call.Entry.{Entry}
 use Rattle.dcr_journal.specs.declared.call.Outcome.TheVariants as outcome
 use Rattle.dcr_journal.specs.declared.closed.Closed.{Closed}
 use Rattle.dcr_laws.specs.Laws.{IsRun as IsRunFrom, Spell, calls_for}
-use Rattle.dcr_run.specs.RunOf.{IsRunOf}
 use Rattle.dcr_json.specs.Case.{case_in}
 use Rattle.dcr_json.specs.Judged.{Spelled}
 use Rattle.dcr_json.specs.declared.case.CaseStop.{CaseStop}
-use Rattle.dcr_report.specs.Report.{report_text}
+use Rattle.dcr_json.specs.declared.case.CaseStop.TheVariants.{TooLong}
+use Rattle.dcr_replay.specs.FirstWrong.{IsVerdict}
+use Rattle.dcr_replay.specs.Laws.{IsReport}
+use Rattle.dcr_replay.specs.declared.verdict.Verdict.{Verdict}
+use Rattle.dcr_replay.specs.declared.verdict.Verdict.TheVariants as verdict
+use Rattle.dcr_replay.specs.declared.verdict.Wrong.{Wrong}
+use Rattle.dcr_app.specs.Due.{Due, IsRunOfWhole, rules_in, report_of, verdict_line, verdict_status}
 use Rattle.dcr_app.specs.Refusal.{refusal_line}
 use Rattle.dcr_app.specs.declared.app.End.{End}
+use Rattle.dcr_app.specs.declared.command.Command.{Command}
+use Rattle.dcr_app.specs.declared.command.Command.TheVariants.{Run, Replay}
 
--- the words are the one word `run`
-abbrev pub IsRun : List (String Global) → Type 0
-IsRun (word ∷ []) = string_bytes word ≡ codes "run"
-IsRun words = ⊥
+-- ---- the table
 
--- the flat relation of a case's nested graph
-abbrev pub rules_in : Spelled → Rules
-rules_in case = flat_relation case.nested
+-- what was due was written, all of it
+pub record Whole (P : Due → Type 0) (before after : Option (List ℕ)) (end : End) : Type 0 where
+  pub due : Due
+  pub is : P due
+  pub status : end.status ≡ due.status
+  pub closed : end.closed ≡ due.closed
+  pub wrote : Appends before after due.text
 
--- the report of a run of a case
-abbrev pub report_of : Spelled → Closed → List ℕ
-report_of case closed = report_text case.nested case.cover closed.opening closed.history.entries
+-- of what was due a front was written, and not all of it
+pub record NotAll (P : Due → Type 0) (before after : Option (List ℕ)) (end : End) : Type 0 where
+  pub due : Due
+  pub is : P due
+  pub closed : end.closed ≡ due.closed
+  pub count : ℕ
+  pub fewer : count < length due.text
+  pub wrote : Appends before after (take count due.text)
 
--- the run of a case: its sessions' calls, one after the other, from its opening marking
-abbrev pub IsRunOfCase : Spelled → Closed → Type 0
-IsRunOfCase case closed = IsRunOf (rules_in case) case.cover.owned case.opening case.sessions closed
+-- of what was due a front was written
+pub record Front (P : Due → Type 0) (before after : Option (List ℕ)) (end : End) : Type 0 where
+  pub due : Due
+  pub is : P due
+  pub closed : end.closed ≡ due.closed
+  pub count : ℕ
+  pub wrote : Appends before after (take count due.text)
 
--- What was written of a text on each status: nothing where the input failed, a front of it and not all where the
--- output failed, a front of it where memory ran out, and else all of it.
-abbrev pub Wrote : Status → List ℕ → Option (List ℕ) → Option (List ℕ) → Type 0
-Wrote Done text before after = Appends before after text
-Wrote Usage text before after = Appends before after text
-Wrote Refused text before after = Appends before after text
-Wrote ReadFault text before after = Appends before after []
-Wrote WriteFault text before after = (n : ℕ) × (n < length text) × Appends before after (take n text)
-Wrote NoMemory text before after = (n : ℕ) × Appends before after (take n text)
-
--- a line was to be written, and there was no run
-pub record SaysLine (line : List ℕ) (before after : Option (List ℕ)) (end : End) : Type 0 where
+-- nothing was written, and there is no run
+pub record Nothing (before after : Option (List ℕ)) (end : End) : Type 0 where
   pub closed : end.closed ≡ None
-  pub wrote : Wrote end.status line before after
+  pub wrote : Appends before after []
 
--- other words than `run`
-pub record SaysUsage (before after : Option (List ℕ)) (end : End) : Type 0 where
-  pub status : (end.status ≡ Usage) ⊎ (end.status ≡ WriteFault)
-  pub line : SaysLine (codes "usage\n") before after end
+-- What was written on each status, where what is due has P: all of it; or nothing where the input failed, a front and
+-- not all of it where the output failed, and nothing or a front of it where memory ran out.
+abbrev pub EndsAs : Status → (Due → Type 0) → Option (List ℕ) → Option (List ℕ) → End → Type 0
+EndsAs Done P before after end = Whole P before after end
+EndsAs Usage P before after end = Whole P before after end
+EndsAs Refused P before after end = Whole P before after end
+EndsAs Invalid P before after end = Whole P before after end
+EndsAs ReadFault P before after end = Nothing before after end
+EndsAs WriteFault P before after end = NotAll P before after end
+EndsAs NoMemory P before after end = Nothing before after end ⊎ Front P before after end
 
--- bytes that are refused
-pub record Refuses (why : CaseStop) (before after : Option (List ℕ)) (end : End) : Type 0 where
-  pub status : (end.status ≡ Refused) ⊎ (end.status ≡ WriteFault) ⊎ (end.status ≡ NoMemory)
-  pub line : SaysLine (refusal_line why) before after end
+abbrev pub Ends : (Due → Type 0) → Option (List ℕ) → Option (List ℕ) → End → Type 0
+Ends P before after end = EndsAs end.status P before after end
 
-abbrev pub IsRunStatus : Status → Type 0
-IsRunStatus status = (status ≡ Done) ⊎ (status ≡ WriteFault) ⊎ (status ≡ NoMemory)
+-- the statuses with which a text is written whole
+abbrev pub IsWhole : Status → Type 0
+IsWhole Done = ⊤
+IsWhole Usage = ⊤
+IsWhole Refused = ⊤
+IsWhole Invalid = ⊤
+IsWhole ReadFault = ⊥
+IsWhole WriteFault = ⊥
+IsWhole NoMemory = ⊥
 
--- a case that was run: the run is its run and a run of the graph, and what was written is the report of it
-pub record Reports (case : Spelled) (closed : Closed) (before after : Option (List ℕ)) (status : Status) : Type 0 where
-  pub run : IsRunOfCase case closed
-  pub legal : IsLegal (rules_in case) case.cover.owned case.opening closed.history.entries
-  pub ended : IsRunStatus status
-  pub wrote : Wrote status (report_of case closed) before after
+-- The line that was written says why the input is refused: the first refusal of a case that holds, or that a report has
+-- too many bytes. Words that are no command refuse nothing.
+abbrev pub Refuses : Option Command → Option (List ℕ) → Option (List ℕ) → Option (List ℕ) → Type 0
+Refuses None left before after = ⊥
+Refuses (Some Run) left before after =
+    (why : CaseStop) × IfSome left (λ bytes. case_in bytes ≡ Err why) × Appends before after (refusal_line why)
+Refuses (Some Replay) left before after =
+    IfSome left (λ bytes. 268435456 < length bytes) × Appends before after (refusal_line TooLong)
 
--- an accepted case: it was run, or memory ran out before it was
-abbrev pub Runs : Spelled → Option Closed → Option (List ℕ) → Option (List ℕ) → Status → Type 0
-Runs case None before after status = (status ≡ NoMemory) × Appends before after []
-Runs case (Some closed) before after status = Reports case closed before after status
-
--- what a case, or its refusal, is answered
-abbrev pub Answers : Result Spelled CaseStop → Option (List ℕ) → Option (List ℕ) → End → Type 0
-Answers (Ok case) before after end = Runs case end.closed before after end.status
-Answers (Err why) before after end = Refuses why before after end
-
--- The answer to an input that was read: of the bytes that were left, where the input tells them.
-pub record Told (left : Option (List ℕ)) (before after : Option (List ℕ)) (end : End) : Type 0 where
-  pub case : Result Spelled CaseStop
-  pub spelled : IfSome left (λ bytes. case_in bytes ≡ case)
-  pub answers : Answers case before after end
-
--- The run of a case as one list of entries: a run of the whole graph, with every session's calls once and in order, and
--- no other; its parts are those of the told run.
-pub record IsRunOfWhole (case : Spelled) (closed : Closed) : Type 0 where
-  pub told : IsRunOfCase case closed
-  pub legal : IsLegal (rules_in case) case.cover.owned case.opening closed.history.entries
-  pub calls : (k : ℕ) → calls_of k closed.history.entries ≡ slice_index_or case.sessions k []
-  pub sessions : All (λ (entry : Entry). entry.session < length case.sessions) closed.history.entries
+-- ---- `run`
 
 -- The report that was written is that of the run of the case that the input spells.
-pub record Reported (left : Option (List ℕ)) (before after : Option (List ℕ)) (end : End) : Type 0 where
+pub record Reported (left before after : Option (List ℕ)) (end : End) : Type 0 where
   pub case : Spelled
   pub spelled : IfSome left (λ bytes. case_in bytes ≡ Ok case)
   pub closed : Closed
@@ -105,9 +99,43 @@ pub record Reported (left : Option (List ℕ)) (before after : Option (List ℕ)
   pub run : IsRunOfWhole case closed
   pub wrote : Appends before after (report_of case closed)
 
+-- a run that is told, whatever the status, is that of the case that the input spells
+abbrev pub IsRunOfInput : Option (List ℕ) → Option Closed → Type 0
+IsRunOfInput left told = IfSome told (λ closed. (case : Spelled) × IfSome left (λ bytes. case_in bytes ≡ Ok case) × IsRunOfWhole case closed)
+
 -- A case of a single session that spells a run of the graph, each event at a site that owns it: each of its calls was
 -- answered by done.
 abbrev pub IsDoneThroughout : Option (List ℕ) → End → Type 0
 IsDoneThroughout left end = IfSome left (λ bytes. (case : Spelled) (events : List ℕ) (executions : List (ℕ × ℕ)) → case_in bytes ≡ Ok case
     → IsRunFrom (rules_in case) case.opening events → Spell case.cover.owned events executions → case.sessions ≡ calls_for executions ∷ []
     → IfSome end.closed (λ closed. All (λ (entry : Entry). entry.outcome ≡ outcome.Done) closed.history.entries))
+
+-- what an input and an output that don't fail can end with, where these statuses are due
+abbrev pub IsOr : Status → Status → Type 0
+IsOr due status = (status ≡ due) ⊎ (status ≡ NoMemory)
+
+-- a case is done, and other bytes are refused
+abbrev pub IsAnsweredCase : Result Spelled CaseStop → Status → Type 0
+IsAnsweredCase (Ok case) status = IsOr Done status
+IsAnsweredCase (Err why) status = IsOr Refused status
+
+-- ---- `replay`
+
+-- the line that was written says that the input is the report of a legal history, with the number of its entries
+pub record SaysValid (left before after : Option (List ℕ)) : Type 0 where
+  pub count : ℕ
+  pub report : IfSome left (λ bytes. IsReport bytes count)
+  pub wrote : Appends before after (codes "valid " ++ decimal count ++ codes "\n")
+
+-- the line that was written says which line of the input is the first wrong one
+pub record SaysInvalid (left before after : Option (List ℕ)) : Type 0 where
+  pub line : ℕ
+  pub kind : Wrong
+  pub first : IfSome left (λ bytes. IsVerdict bytes (verdict.Invalid line kind))
+  pub wrote : Appends before after (verdict_line (verdict.Invalid line kind))
+
+-- a text within the limit is found valid or invalid, by its verdict, and a longer one is refused
+abbrev pub IsAnsweredReport : List ℕ → Status → Type 0
+IsAnsweredReport bytes status =
+    (268435456 < length bytes → IsOr Refused status)
+    × (length bytes ≤ 268435456 → (verdict : Verdict) → IsVerdict bytes verdict → IsOr (verdict_status verdict) status)

@@ -1,2 +1,4 @@
-pub mod Refusal
+pub mod Command
+pub mod Due
 pub mod Ends
+pub mod Refusal

@@ -1,9 +1,13 @@
-//! The top call: a case file in, its report out.
+//! The top call: a case file in, its report out; or a report in, its verdict out.
 #![tactic(auto)]
 
 mod app;
+mod command;
+mod lines;
 mod refusal;
+mod replay;
 mod run;
+mod say;
 
 pub use app::{End, dcr};
 pub use dcr_base::Status;

@@ -1,10 +1,10 @@
-ghost use Rattle.std.specs.Prelude.{◌≡◌, ◌++◌, codes, decimal, OnOk, IfOk};
+ghost use Rattle.std.specs.Prelude.{◌≡◌, ◌++◌, codes, IfOk};
 ghost use Rattle.dcr_app.specs.Refusal.{limit_text, part_text, refusal_line};
 
+use crate::lines::{named, numbered, numbered_twice, text, worded};
 use dcr_graph::Name;
 use dcr_json::{CaseStop, LimitKind, Part};
 use dcr_set::NoMemory;
-use dcr_text::decimal;
 use std::alloc::Global;
 
 /// The line that tells why a case is refused; nothing for want of memory. `NoMemory` where memory could not
@@ -34,15 +34,6 @@ pub(crate) fn line_of(alloc: Global, stop: &CaseStop) -> Result<Vec<u8>, NoMemor
     }
 }
 
-// A text.
-fn text(alloc: Global, text: &[u8]) -> Result<Vec<u8>, NoMemory>
-    ensures { IfOk result (λ line. line.items ≡ text.now) }
-{
-    let mut line = Vec::new(alloc);
-    line.extend_from_slice(text)?;
-    Ok(line)
-}
-
 // The names of a pair that is both included and excluded.
 fn clash(alloc: Global, a: &Name, b: &Name) -> Result<Vec<u8>, NoMemory>
     ensures { IfOk result (λ line. line.items ≡ codes "refused 9 clash " ++ a.now ++ codes " " ++ b.now ++ codes "\n") }
@@ -51,50 +42,6 @@ fn clash(alloc: Global, a: &Name, b: &Name) -> Result<Vec<u8>, NoMemory>
     line.extend_from_slice(a.text().as_bytes())?;
     line.extend_from_slice(b" ")?;
     line.extend_from_slice(b.text().as_bytes())?;
-    line.extend_from_slice(b"\n")?;
-    Ok(line)
-}
-
-// These words and a name.
-fn named(alloc: Global, words: &[u8], name: &Name) -> Result<Vec<u8>, NoMemory>
-    ensures { IfOk result (λ line. line.items ≡ words.now ++ name.now ++ codes "\n") }
-{
-    let mut line = text(alloc, words)?;
-    line.extend_from_slice(name.text().as_bytes())?;
-    line.extend_from_slice(b"\n")?;
-    Ok(line)
-}
-
-// These words and a number.
-fn numbered(alloc: Global, words: &[u8], n: u32) -> Result<Vec<u8>, NoMemory>
-    ensures { IfOk result (λ line. line.items ≡ words.now ++ decimal n ++ codes "\n") }
-{
-    let mut line = text(alloc, words)?;
-    decimal(u64::from(n), &mut line)?;
-    line.extend_from_slice(b"\n")?;
-    Ok(line)
-}
-
-// These words and two numbers.
-fn numbered_twice(alloc: Global, words: &[u8], m: u32, n: u32) -> Result<Vec<u8>, NoMemory>
-    ensures { IfOk result (λ line. line.items ≡ words.now ++ decimal m ++ codes " " ++ decimal n ++ codes "\n") }
-{
-    let mut line = text(alloc, words)?;
-    decimal(u64::from(m), &mut line)?;
-    line.extend_from_slice(b" ")?;
-    decimal(u64::from(n), &mut line)?;
-    line.extend_from_slice(b"\n")?;
-    Ok(line)
-}
-
-// These words, a word and a number.
-fn worded(alloc: Global, words: &[u8], word: &[u8], n: u32) -> Result<Vec<u8>, NoMemory>
-    ensures { IfOk result (λ line. line.items ≡ words.now ++ word.now ++ codes " " ++ decimal n ++ codes "\n") }
-{
-    let mut line = text(alloc, words)?;
-    line.extend_from_slice(word)?;
-    line.extend_from_slice(b" ")?;
-    decimal(u64::from(n), &mut line)?;
     line.extend_from_slice(b"\n")?;
     Ok(line)
 }

@@ -1,4 +1,6 @@
-ghost use Rattle.std.specs.Prelude.{◌≡◌, ◌≤◌, length, Ok, Some, All};
+// The command `run`.
+ghost use Rattle.std.specs.Prelude.{◌≡◌, ◌≢◌, ◌≤◌, length, Ok, Some, All};
+ghost use Rattle.std.specs.Io.KnownBytes.{IsAtEnd};
 ghost use Rattle.dcr_base.specs.Count.{Rose};
 ghost use Rattle.dcr_graph.specs.Cause.{waits};
 ghost use Rattle.dcr_graph.specs.GraphValue.{rules_of};
@@ -6,24 +8,61 @@ ghost use Rattle.dcr_graph.specs.Projection.{HasRoom};
 ghost use Rattle.dcr_journal.specs.Run.{after, marks_at, IsLegal};
 ghost use Rattle.dcr_nest.specs.FlatRelation.{IsFlattening};
 ghost use Rattle.dcr_json.specs.Built.{case_of, IsCase};
+ghost use Rattle.dcr_json.specs.Case.{case_in};
 ghost use Rattle.dcr_report.specs.Report.{report_text};
-ghost use Rattle.dcr_app.specs.Ends.{Answers, IsRunStatus, Wrote};
+ghost use Rattle.dcr_app.specs.Due.{IsDueToCase, IsOwed};
+ghost use Rattle.dcr_app.specs.Ends.{Ends};
 
 use crate::End;
-use dcr_base::{Sink, Status};
+use crate::say::{refuse, silent};
+use dcr_base::{ReadStop, Sink, Source, Status, read_all};
 use dcr_graph::Graph;
 use dcr_journal::Closed;
-use dcr_json::Case;
+use dcr_json::{Case, CaseStop, read_case};
 use dcr_nest::Nested;
 use dcr_proj::Cover;
 use dcr_report::{ReportStop, write_report};
 use dcr_run::run_case;
 use std::alloc::Global;
 
+// The most bytes of a case file.
+const MAX_BYTES: usize = 16_777_216;
+
+/// Reads a case to its end, runs it, and writes its report.
+pub(crate) fn run<I: Source, O: Sink>(alloc: Global, input: &mut I, output: &mut O) -> End
+    ensures ends { Ends (IsDueToCase (I.left input.old)) (O.taken output.old) (O.taken output.new) result }
+    ensures ended { result.status ≡ Status.Done → IsAtEnd (I.left input.new) }
+    ensures read_counted { result.status ≡ Status.ReadFault → Rose (I.read_faults input.old) (I.read_faults input.new) }
+    ensures write_counted { result.status ≡ Status.WriteFault → Rose (O.write_faults output.old) (O.write_faults output.new) }
+    ensures reads_never_fall { I.read_faults input.old ≤ I.read_faults input.new }
+    ensures writes_never_fall { O.write_faults output.old ≤ O.write_faults output.new }
+{
+    match read_all(alloc, input, MAX_BYTES) {
+        Ok(bytes) => run_bytes(alloc, &bytes, output),
+        Err(ReadStop::TooLong) => refuse(alloc, output, CaseStop::TooLong),
+        Err(ReadStop::ReadFault) => silent(Status::ReadFault),
+        Err(ReadStop::NoMemory) => silent(Status::NoMemory),
+    }
+}
+
+// Answers the bytes of a file.
+fn run_bytes<O: Sink>(alloc: Global, bytes: &[u8], output: &mut O) -> End
+    ensures ends { Ends (IsOwed (case_in bytes.now)) (O.taken output.old) (O.taken output.new) result }
+    ensures no_read_fault { result.status ≢ Status.ReadFault }
+    ensures counted { result.status ≡ Status.WriteFault → Rose (O.write_faults output.old) (O.write_faults output.new) }
+    ensures never_falls { O.write_faults output.old ≤ O.write_faults output.new }
+{
+    match read_case(alloc, bytes) {
+        Ok(case) => run_and_report(alloc, case, output),
+        Err(stop) => refuse(alloc, output, stop),
+    }
+}
+
 // Runs a case and writes the report of the run.
-pub(crate) fn run_and_report<O: Sink>(alloc: Global, case: Case, output: &mut O) -> End
+fn run_and_report<O: Sink>(alloc: Global, case: Case, output: &mut O) -> End
     requires { IsCase case }
-    ensures answers { Answers (Ok (case_of case)) (O.taken output.old) (O.taken output.new) result }
+    ensures ends { Ends (IsOwed (Ok (case_of case))) (O.taken output.old) (O.taken output.new) result }
+    ensures no_read_fault { result.status ≢ Status.ReadFault }
     ensures counted { result.status ≡ Status.WriteFault → Rose (O.write_faults output.old) (O.write_faults output.new) }
     ensures never_falls { O.write_faults output.old ≤ O.write_faults output.new }
 {
@@ -36,10 +75,7 @@ pub(crate) fn run_and_report<O: Sink>(alloc: Global, case: Case, output: &mut O)
     } = case;
     match run_case(alloc, &graph, &cover, opening, sessions.all()) {
         Ok(closed) => report(alloc, &nested, &graph, &cover, closed, output),
-        Err(_) => End {
-            status: Status::NoMemory,
-            closed: None,
-        },
+        Err(_) => silent(Status::NoMemory),
     }
 }
 
@@ -60,9 +96,13 @@ fn report<O: Sink>(
         (after (rules_of graph.now) closed.opening closed.history.entries) }
     requires verdict { closed.waits ≡ waits (length graph.now.names)
         (after (rules_of graph.now) closed.opening closed.history.entries) }
-    ensures closed { result.closed ≡ Some closed }
-    ensures status { IsRunStatus result.status }
-    ensures wrote { Wrote result.status (report_text nested.now cover.now closed.opening closed.history.entries) (O.taken output.old) (O.taken output.new) }
+    ensures ends { Ends (λ due. due ≡ record {
+      status = Status.Done;
+      text = report_text nested.now cover.now closed.opening closed.history.entries;
+      closed = Some closed;
+    })
+        (O.taken output.old) (O.taken output.new) result }
+    ensures no_read_fault { result.status ≢ Status.ReadFault }
     ensures counted { result.status ≡ Status.WriteFault → Rose (O.write_faults output.old) (O.write_faults output.new) }
     ensures never_falls { O.write_faults output.old ≤ O.write_faults output.new }
 {

@@ -1,8 +1,21 @@
-use Rattle.dcr_app.proofs.RunLemmas.{reported, done_throughout}
+use Rattle.dcr_app.proofs.RunLemmas.{run_of_input, done_throughout}
+use Rattle.dcr_app.proofs.ReplayLemmas.{says_valid, says_invalid, answered_report}
 use Rattle.dcr_app.proofs.app.dcr.Goals as goal
 
-pub returns-then-is_run-clause-report : goal.returns-then-is_run-clause-report
-returns-then-is_run-clause-report g c = λ done. reported (g.I.Source.left c.args.input.now) (g.O.Sink.taken c.args.output.now) (g.O.Sink.taken c.run.new.output) c.run.result done (c.run.ensures.answers (λ fault. absurd cc))
+pub returns-in-Some-Run-clause-converse : goal.returns-in-Some-Run-clause-converse
+returns-in-Some-Run-clause-converse g c = λ _.
+    let left = g.I.Source.left c.args.input.now in
+    done_throughout left c.run.result (run_of_input left (g.O.Sink.taken c.args.output.now) (g.O.Sink.taken c.run.new.output) c.run.result c.run.ensures.ends)
 
-pub returns-then-is_run-clause-converse : goal.returns-then-is_run-clause-converse
-returns-then-is_run-clause-converse g c = λ _. done_throughout (g.I.Source.left c.args.input.now) (g.O.Sink.taken c.args.output.now) (g.O.Sink.taken c.run.new.output) c.run.result c.run.ensures.answers (λ fault. (c.run.ensures.read_fault fault).closed)
+pub returns-in-Some-Replay-clause-valid : goal.returns-in-Some-Replay-clause-valid
+returns-in-Some-Replay-clause-valid g c = λ _ done.
+    says_valid (g.I.Source.left c.args.input.now) (g.O.Sink.taken c.args.output.now) (g.O.Sink.taken c.replay.new.output) c.replay.result c.valid_is_report.ensures done c.replay.ensures.ends
+
+pub returns-in-Some-Replay-clause-invalid : goal.returns-in-Some-Replay-clause-invalid
+returns-in-Some-Replay-clause-invalid g c = λ invalid.
+    says_invalid (g.I.Source.left c.args.input.now) (g.O.Sink.taken c.args.output.now) (g.O.Sink.taken c.replay.new.output) c.replay.result invalid c.replay.ensures.ends
+
+pub returns-in-Some-Replay-clause-checked : goal.returns-in-Some-Replay-clause-checked
+returns-in-Some-Replay-clause-checked g c = λ _ reads writes.
+    answered_report (g.I.Source.left c.args.input.now) (g.O.Sink.taken c.args.output.now) (g.O.Sink.taken c.replay.new.output) c.replay.result c.a_text_has_one_verdict.ensures
+    (λ is. reads (c.replay.ensures.read_counted is)) (λ is. writes (c.replay.ensures.write_counted is)) c.replay.ensures.ends

@@ -1,14 +1,15 @@
-use Rattle.std.proofs.Common.{List, Option, sym, subst}
+use Rattle.std.proofs.Common.{List, Ok, subst, sym}
 use Rattle.dcr_graph.specs.GraphValue.{rules_of}
 use Rattle.dcr_graph.specs.declared.marking.Marking.{Marking}
 use Rattle.dcr_nest.specs.FlatRelation.{flat_relation}
 use Rattle.dcr_journal.specs.Run.{IsLegal}
 use Rattle.dcr_journal.specs.declared.call.Call.{Call}
-use Rattle.dcr_journal.specs.declared.closed.Closed.{Closed}
+use Rattle.dcr_report.specs.Report.{report_text}
 use Rattle.dcr_run.specs.RunOf.{IsRunOf}
 use Rattle.dcr_json.specs.Built.{case_of}
-use Rattle.dcr_app.specs.Ends.{Runs}
-use Rattle.dcr_app.proofs.RunLemmas.{run_by, legal_by}
+use Rattle.dcr_app.specs.Due.{IsOwed}
+use Rattle.dcr_app.proofs.EndLemmas.{ends_so}
+use Rattle.dcr_app.proofs.RunLemmas.{run_by, legal_by, run_of_whole, IsRunDue}
 use Rattle.dcr_app.proofs.run.run_and_report.Goals as goal
 
 pub report-requires-clause-legal : goal.report-requires-clause-legal
@@ -16,16 +17,13 @@ report-requires-clause-legal g c =
     let P : Marking → Type 0 = λ M. IsLegal (rules_of c.args.case.graph) c.args.case.cover.owned M c.in-Ok.closed.history.entries in
     subst P (sym c.in-Ok.ensures.run.opening) c.in-Ok.ensures.legal
 
-pub returns-in-Ok-clause-answers : goal.returns-in-Ok-clause-answers
-returns-in-Ok-clause-answers g c =
+pub returns-in-Ok-clause-ends : goal.returns-in-Ok-clause-ends
+returns-in-Ok-clause-ends g c =
     let case = c.args.case in let closed = c.in-Ok.closed in
     let G = rules_of case.graph in let H = flat_relation case.nested in let C = case.cover.owned in let M = case.opening in
     let P : List (List Call) → Type 0 = λ sessions. IsRunOf G C M sessions closed in
-    let run = subst P c.all.ensures c.in-Ok.ensures.run in
-    let Q : Option Closed → Type 0 = λ o. Runs (case_of case) o (g.O.Sink.taken c.args.output.now) (g.O.Sink.taken c.report.new.output) c.report.result.status in
-    subst Q (sym c.report.ensures.closed) (record {
-      run = run_by G H C M case.sessions closed c.requires.flat.related run;
-      legal = legal_by G H C M closed.history.entries c.requires.flat.related c.in-Ok.ensures.legal;
-      ended = c.report.ensures.status;
-      wrote = c.report.ensures.wrote;
-    })
+    let run = run_by G H C M case.sessions closed c.requires.flat.related (subst P c.all.ensures c.in-Ok.ensures.run) in
+    let legal = legal_by G H C M closed.history.entries c.requires.flat.related c.in-Ok.ensures.legal in
+    let text = report_text case.nested case.cover closed.opening closed.history.entries in
+    ends_so (IsRunDue text closed) (IsOwed (Ok (case_of case))) (λ due is. (closed, run_of_whole (case_of case) closed run legal, is))
+    (g.O.Sink.taken c.args.output.now) (g.O.Sink.taken c.report.new.output) c.report.result c.report.ensures.ends

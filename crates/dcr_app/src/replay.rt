@@ -1,0 +1,74 @@
+// The command `replay`.
+ghost use Rattle.std.specs.Prelude.{◌≡◌, ◌≢◌, ◌≤◌, length, IfOk};
+ghost use Rattle.std.specs.Io.KnownBytes.{IsAtEnd};
+ghost use Rattle.dcr_base.specs.Count.{Rose};
+ghost use Rattle.dcr_app.specs.Due.{IsDueToReport, HasVerdict, verdict_line, verdict_status};
+ghost use Rattle.dcr_app.specs.Ends.{Ends};
+
+use crate::End;
+use crate::lines::{numbered, numbered_word};
+use crate::say::{refuse, say, silent};
+use dcr_base::{ReadStop, Sink, Source, Status, read_all};
+use dcr_json::CaseStop;
+use dcr_replay::{Verdict, check_report};
+use dcr_set::NoMemory;
+use std::alloc::Global;
+
+// The most bytes of a report.
+const MAX_BYTES: usize = 268_435_456;
+
+/// Reads a report to its end and tells its verdict.
+pub(crate) fn replay<I: Source, O: Sink>(alloc: Global, input: &mut I, output: &mut O) -> End
+    ensures ends { Ends (IsDueToReport (I.left input.old)) (O.taken output.old) (O.taken output.new) result }
+    ensures ended { result.status ≡ Status.Done → IsAtEnd (I.left input.new) }
+    ensures read_counted { result.status ≡ Status.ReadFault → Rose (I.read_faults input.old) (I.read_faults input.new) }
+    ensures write_counted { result.status ≡ Status.WriteFault → Rose (O.write_faults output.old) (O.write_faults output.new) }
+    ensures reads_never_fall { I.read_faults input.old ≤ I.read_faults input.new }
+    ensures writes_never_fall { O.write_faults output.old ≤ O.write_faults output.new }
+{
+    match read_all(alloc, input, MAX_BYTES) {
+        Ok(bytes) => replay_bytes(alloc, &bytes, output),
+        Err(ReadStop::TooLong) => refuse(alloc, output, CaseStop::TooLong),
+        Err(ReadStop::ReadFault) => silent(Status::ReadFault),
+        Err(ReadStop::NoMemory) => silent(Status::NoMemory),
+    }
+}
+
+// Tells the verdict of a text within the limit.
+fn replay_bytes<O: Sink>(alloc: Global, bytes: &[u8], output: &mut O) -> End
+    requires { length bytes.now ≤ 268435456 }
+    ensures ends { Ends (HasVerdict bytes.now) (O.taken output.old) (O.taken output.new) result }
+    ensures no_read_fault { result.status ≢ Status.ReadFault }
+    ensures counted { result.status ≡ Status.WriteFault → Rose (O.write_faults output.old) (O.write_faults output.new) }
+    ensures never_falls { O.write_faults output.old ≤ O.write_faults output.new }
+{
+    let Ok(verdict) = check_report(alloc, bytes) else {
+        return silent(Status::NoMemory);
+    };
+    match line_of(alloc, verdict) {
+        Ok(line) => say(output, &line, status_of(verdict)),
+        Err(_) => silent(Status::NoMemory),
+    }
+}
+
+// The line that tells a verdict.
+fn line_of(alloc: Global, verdict: Verdict) -> Result<Vec<u8>, NoMemory>
+    ensures { IfOk result (λ line. line.items ≡ verdict_line verdict) }
+{
+    match verdict {
+        Verdict::Valid { entries } => numbered(alloc, b"valid ", entries),
+        Verdict::Invalid { line, kind } => {
+            numbered_word(alloc, b"invalid ", line, kind.word().as_bytes())
+        }
+    }
+}
+
+// The status of a verdict.
+fn status_of(verdict: Verdict) -> Status
+    ensures { result ≡ verdict_status verdict }
+{
+    match verdict {
+        Verdict::Valid { .. } => Status::Done,
+        Verdict::Invalid { .. } => Status::Invalid,
+    }
+}
