@@ -16,8 +16,11 @@ fn main(rt: HostRuntime) -> ExitCode {
     ExitCode::from(end.status.code())
 }
 
-// The words after the program's name.
+// The words after the program's name. Each is pushed by itself, so that every growth that is refused is told.
 fn words_of(rt: &HostRuntime) -> io::Result<Vec<String>> {
-    let words = env::args(rt)?.skip(1).collect(rt.alloc())?;
+    let mut words = Vec::new(rt.alloc());
+    for word in env::args(rt)?.skip(1) {
+        words.push(word)?;
+    }
     Ok(words)
 }
