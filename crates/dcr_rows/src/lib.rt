@@ -12,6 +12,8 @@ mod limits;
 #[cfg(test)]
 mod refusals;
 #[cfg(test)]
+mod replays;
+#[cfg(test)]
 mod small;
 #[cfg(test)]
 mod whole;

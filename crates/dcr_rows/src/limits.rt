@@ -123,3 +123,16 @@ fn files_have_at_most_16_mib(rt: HostRuntime) -> Result<(), Fail> {
     assert_eq!(rt; written.as_slice(), "refused 1 too-long\n".as_bytes());
     Ok(())
 }
+
+#[test]
+fn reports_have_at_most_256_mib(rt: HostRuntime) -> Result<(), Fail> {
+    let mut bytes = vec![in rt.alloc(); b' '; 268_435_456]?;
+    let (status, written) = answer(&rt, &["replay"], &bytes)?;
+    assert_eq!(rt; status, Status::Invalid);
+    assert_eq!(rt; written.as_slice(), "invalid 1 head\n".as_bytes());
+    bytes.push(b' ')?;
+    let (status, written) = answer(&rt, &["replay"], &bytes)?;
+    assert_eq!(rt; status, Status::Refused);
+    assert_eq!(rt; written.as_slice(), "refused 1 too-long\n".as_bytes());
+    Ok(())
+}

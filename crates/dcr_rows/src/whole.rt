@@ -33,7 +33,7 @@ end 9
 "#,
 };
 
-const ROWS: [Whole; 16] = [
+pub(crate) static ROWS: [Whole; 16] = [
     Whole {
         name: "first report",
         file: r#"{"graph":{"events":[{"name":"pm"},{"name":"s"},{"name":"gm"}],"relations":[["condition","pm","s"],["condition","s","gm"],["response","pm","s"],["response","pm","gm"]]},"cover":[{"site":"doctor","events":["pm","s"]},{"site":"nurse","events":["gm"]}],"sessions":[["exec nurse gm","exec doctor gm","exec doctor pm","exec doctor s"]]}"#,
@@ -312,7 +312,14 @@ fn each_row_gives_its_report(rt: HostRuntime) -> Result<(), Fail> {
 
 #[test]
 fn other_words_are_answered_by_usage(rt: HostRuntime) -> Result<(), Fail> {
-    for words in [&[][..], &["Run"], &["run", "run"], &["--help"], &[""]] {
+    for words in [
+        &[][..],
+        &["Run"],
+        &["run", "run"],
+        &["replay", "run"],
+        &["--help"],
+        &[""],
+    ] {
         let (status, written) = answer(&rt, words, ROWS[0].file.as_bytes())?;
         assert_eq!(rt; status, Status::Usage);
         assert_eq!(rt; written.as_slice(), "usage\n".as_bytes());

@@ -1,0 +1,169 @@
+// Reports that are replayed, and texts that are almost reports.
+use crate::whole::{ROWS, answer, hospital};
+use dcr_app::Status;
+use std::test::Fail;
+
+// In the report of the hospital the first text is replaced by the second, and this is what is told.
+type Row = (&'static str, &'static str, &'static str);
+
+const HEADS: [Row; 20] = [
+    ("dcr 1\n", "dcr 3\n", "1 head"),
+    ("dcr 1\n", "dcr 1 \n", "1 head"),
+    ("dcr 1\n", "dcr 01\n", "1 head"),
+    ("dcr 1\n", "\ndcr 1\n", "1 head"),
+    (r#"{"events":"#, r#"{"events": "#, "2 graph"),
+    (
+        r#"{"label":"pm","name":"pm"}"#,
+        r#"{"name":"pm","label":"pm"}"#,
+        "2 graph",
+    ),
+    (r#""label":"s","#, "", "2 graph"),
+    (
+        r#"["response","dt","s"]"#,
+        r#"["response","zz","s"]"#,
+        "2 graph",
+    ),
+    (
+        r#"["include","s","gm"]"#,
+        r#"["include","s","gm"],["exclude","s","gm"]"#,
+        "2 graph",
+    ),
+    (
+        r#"["include","s","gm"]"#,
+        r#"["cancel","s","gm"]"#,
+        "2 graph",
+    ),
+    (
+        r#"{"events":["pm","s"],"site":"doctor"}"#,
+        r#"{"site":"doctor","events":["pm","s"]}"#,
+        "3 cover",
+    ),
+    (r#"["pm","s"],"site""#, r#"["s","pm"],"site""#, "3 cover"),
+    (r#"["gm","dt"],"site""#, r#"["gm"],"site""#, "3 cover"),
+    (r#""site":"nurse""#, r#""site":"doctor""#, "3 cover"),
+    ("cover [", "cover  [", "3 cover"),
+    ("included pm,s,gm,dt", "included s,pm,gm,dt", "4 open"),
+    ("included pm,s,gm,dt", "included pm,s,s,gm,dt", "4 open"),
+    ("included pm,s,gm,dt", "included pm,s,gm,zz", "4 open"),
+    ("executed - pending -", "pending - executed -", "4 open"),
+    ("executed - pending -", "executed  pending -", "4 open"),
+];
+
+const ENTRIES: [Row; 18] = [
+    ("\n0 0 0 exec", "\n00 0 0 exec", "5 entry"),
+    ("\n0 0 0 exec", "\n1 0 0 exec", "5 entry"),
+    ("\n0 0 0 exec", "\n0 1024 0 exec", "5 entry"),
+    (
+        "0 0 0 exec doctor pm done\n1 0 1 exec nurse gm condition s\n",
+        "1 0 1 exec nurse gm condition s\n0 0 0 exec doctor pm done\n",
+        "5 entry",
+    ),
+    ("1 0 1 exec nurse", "1 0 2 exec nurse", "6 entry"),
+    ("1 0 1 exec nurse", "1 1 1 exec nurse", "6 entry"),
+    ("1 0 1 exec nurse", "1 0 1 exec porter", "6 entry"),
+    ("gm condition s", "zz condition s", "6 entry"),
+    ("1 0 1 exec nurse gm condition s\n", "", "6 entry"),
+    ("4 0 4 accepting", "4 0 4  accepting", "9 entry"),
+    (
+        "7 0 7 exec nurse gm done",
+        "7 0 7 exec nurse gm faulted",
+        "13 entry",
+    ),
+    ("condition s", "excluded", "6 outcome"),
+    ("condition s", "done", "6 outcome"),
+    ("condition s", "condition pm", "6 outcome"),
+    ("condition s", "faulted", "6 outcome"),
+    ("condition s", "not-here", "6 outcome"),
+    ("accepting waits s", "accepting yes", "9 outcome"),
+    ("gm excluded", "gm done", "10 outcome"),
+];
+
+const ENDS: [Row; 16] = [
+    ("executed pm,s", "executed s,pm", "14 site"),
+    ("site doctor", "site nurse", "14 site"),
+    (
+        "site doctor executed pm,s pending - included pm,s\n",
+        "",
+        "14 site",
+    ),
+    ("executed s,gm,dt", "executed gm,dt", "15 site"),
+    (
+        "site nurse executed s,gm,dt pending - included s,gm,dt\n",
+        "",
+        "15 site",
+    ),
+    ("verdict accepting", "verdict waits s", "16 verdict"),
+    ("verdict accepting", "verdict accepting ", "16 verdict"),
+    ("verdict accepting\n", "", "16 verdict"),
+    (
+        "verdict accepting",
+        "site porter executed - pending - included -\nverdict accepting",
+        "16 verdict",
+    ),
+    ("end 9", "end 09", "17 end"),
+    ("end 9", "end 8", "17 end"),
+    ("end 9\n", "", "17 end"),
+    ("end 9\n", "end 9", "17 end"),
+    ("end 9\n", "end 9\n\n", "18 extra"),
+    ("end 9\n", "end 9\nend 9\n", "18 extra"),
+    ("end 9\n", "end 9\nx", "18 extra"),
+];
+
+#[test]
+fn each_report_is_valid(rt: HostRuntime) -> Result<(), Fail> {
+    for row in ROWS.iter().chain([hospital()]) {
+        let (_, count) = row.report.split_once("\nend ").unwrap_or(("", ""));
+        let (status, written) = answer(&rt, &["replay"], row.report.as_bytes())?;
+        assert_eq!(rt; status, Status::Done, "{}", row.name);
+        let want = format!(in rt.alloc(); "valid {count}")?;
+        assert_eq!(rt; written.as_slice(), want.as_bytes(), "{}", row.name);
+    }
+    Ok(())
+}
+
+#[test]
+fn each_wrong_line_is_told(rt: HostRuntime) -> Result<(), Fail> {
+    for (old, new, told) in HEADS.iter().chain(&ENTRIES).chain(&ENDS) {
+        let (front, rest) = hospital().report.split_once(*old).unwrap_or(("", ""));
+        assert!(rt;
+            !rest.is_empty() || old.starts_with("end"),
+            "{old} stands in the report"
+        );
+        let text = format!(in rt.alloc(); "{front}{new}{rest}")?;
+        let (status, written) = answer(&rt, &["replay"], text.as_bytes())?;
+        assert_eq!(rt; status, Status::Invalid, "{old} by {new}");
+        let want = format!(in rt.alloc(); "invalid {told}\n")?;
+        assert_eq!(rt; written.as_slice(), want.as_bytes(), "{old} by {new}");
+    }
+    Ok(())
+}
+
+#[test]
+fn no_text_has_no_head(rt: HostRuntime) -> Result<(), Fail> {
+    let (status, written) = answer(&rt, &["replay"], b"")?;
+    assert_eq!(rt; status, Status::Invalid);
+    assert_eq!(rt; written.as_slice(), "invalid 1 head\n".as_bytes());
+    Ok(())
+}
+
+// A report whose version is another: a cancel has no place in version 1.
+#[test]
+fn a_graph_is_of_its_version(rt: HostRuntime) -> Result<(), Fail> {
+    let mut tried = false;
+    for row in &ROWS {
+        if let Some((_, rest)) = row.report.split_once("dcr 2\n") {
+            let text = format!(in rt.alloc(); "dcr 1\n{rest}")?;
+            let (status, written) = answer(&rt, &["replay"], text.as_bytes())?;
+            assert_eq!(rt; status, Status::Invalid, "{}", row.name);
+            assert_eq!(rt;
+                written.as_slice(),
+                "invalid 2 graph\n".as_bytes(),
+                "{}",
+                row.name
+            );
+            tried = true;
+        }
+    }
+    assert!(rt; tried);
+    Ok(())
+}
