@@ -1,8 +1,9 @@
 #!/usr/bin/env python3
 """Times the program on the largest cases, and on inputs of 16 MB beside the JSON reader alone.
 
-    bench/bench.py            both tables
+    bench/bench.py            all tables
     bench/bench.py run        the two largest cases
+    bench/bench.py replay     the replay of their reports
     bench/bench.py read       the inputs of 16 MB
 
 Each line is the best of three runs: wall time, processor time (user and system) and peak memory of the process. The
@@ -13,12 +14,14 @@ The inputs are made anew from fixed seeds; nothing is kept. Build first: `./dcr`
 
 import os
 import random
+import subprocess
 import sys
 import tempfile
 import time
 
 TOP = os.path.dirname(os.path.dirname(os.path.abspath(__file__)))
 PROGRAM = [os.path.join(TOP, "crates/dcr/out/dcr"), "run"]
+REPLAY = [PROGRAM[0], "replay"]
 READER = [os.path.join(TOP, "crates/bench_json/out/bench_json")]
 MOST_BYTES = 16_777_216
 
@@ -122,6 +125,19 @@ def run_table():
         print("%-34s %6d %9.2f %9.2f %9.1f %12.0f" % (name, status, seconds, cpu, peak, 200_000 / seconds))
 
 
+def replay_table():
+    columns = ("replay", "report MB", "status", "seconds", "cpu s", "peak MB", "run s", "run cpu")
+    print("%-34s %9s %6s %9s %9s %9s | %8s %8s" % columns)
+    for name, text in [
+        ("256 atoms, 16 sites, 200,000 calls", largest(256, 16, 1)),
+        ("1,024 atoms, 64 sites, 200,000", largest(1024, 64, 2)),
+    ]:
+        report = subprocess.run(PROGRAM, input=text, stdout=subprocess.PIPE, check=True).stdout
+        _, run, run_cpu, _ = measure(PROGRAM, text)
+        status, seconds, cpu, peak = measure(REPLAY, report)
+        print("%-34s %9.1f %6d %9.2f %9.2f %9.1f | %8.2f %8.2f" % (name, len(report) / 1e6, status, seconds, cpu, peak, run, run_cpu))
+
+
 def read_table():
     columns = ("read, 16,777,216 bytes", "status", "seconds", "cpu s", "peak MB", "JSON s", "JSON cpu", "JSON MB", "ratio")
     print("%-40s %6s %9s %9s %9s | %8s %8s %8s %6s" % columns)
@@ -135,5 +151,7 @@ def read_table():
 if __name__ == "__main__":
     if sys.argv[1:] in ([], ["run"]):
         run_table()
+    if sys.argv[1:] in ([], ["replay"]):
+        replay_table()
     if sys.argv[1:] in ([], ["read"]):
         read_table()
