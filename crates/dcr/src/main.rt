@@ -7,8 +7,11 @@ use std::process::ExitCode;
 use std::{env, io};
 
 fn main(rt: HostRuntime) -> ExitCode {
-    let Ok(words) = words_of(&rt) else {
-        return ExitCode::from(Status::NoMemory.code());
+    let words = match words_of(&rt) {
+        Ok(words) => words,
+        // A word that is no text is no command's, and no words are none either.
+        Err(error) if error.kind() == io::ErrorKind::InvalidData => Vec::new(rt.alloc()),
+        Err(_) => return ExitCode::from(Status::NoMemory.code()),
     };
     let mut input = StdSource::new(rt.reader());
     let mut output = StdSink::new(io::writer(&rt));

@@ -4,6 +4,7 @@ ghost use Rattle.dcr_replay.specs.Cut.{line_of, lines_of, whole, says};
 ghost use Rattle.dcr_replay.specs.HeadLines.{behind};
 ghost use Rattle.dcr_replay.specs.EntryLines.{begins_with_digit};
 
+use memchr::memchr;
 use std::marker::Model;
 
 /// A line: the bytes up to a line end, or those behind the last line end, which are a line without its end.
@@ -80,7 +81,7 @@ impl<'a> Lines<'a> {
                 rest: text,
             };
         }
-        match text.iter().position(|byte| *byte == b'\n') {
+        match memchr(b'\n', text) {
             Some(at) => Lines {
                 line: Some(Line {
                     text: &text[..at],
