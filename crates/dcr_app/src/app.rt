@@ -34,7 +34,7 @@ pub struct End {
 /// `Done` comes where the report or `valid` was written, `Invalid` where `invalid` was, `Usage` and `Refused`
 /// where their lines were. `ReadFault` comes only where a read failed, and then nothing was written.
 /// `WriteFault` comes only where a write failed, and then a front of what was to be written was, and not all of
-/// it. `NoMemory` may come in the place of any other answer, with a front of it.
+/// it. `NoMemory` may come in the place of any other answer but that of `usage`, with a front of it.
 pub fn dcr<R, I: Source, O: Sink>(
     _rt: &R,
     alloc: Global,

@@ -23,7 +23,7 @@ use Rattle.dcr_nodes.proofs.NodeLemmas.{distinct_names, tree_names}
 use Rattle.dcr_cover.specs.Refusals.{AreCover}
 use Rattle.dcr_cover.specs.Told.{site_at}
 use Rattle.dcr_line.specs.Known.{AreNames}
-use Rattle.dcr_json.specs.Judged.{atom_names}
+use Rattle.dcr_reading.specs.Accepted.{atom_names}
 use Rattle.dcr_json.specs.Refusals.{sites_of}
 use Rattle.dcr_json.proofs.JudgeLemmas.{ok_then}
 

@@ -29,8 +29,9 @@ use Rattle.dcr_cover.specs.declared.text.CoverStop.{CoverStop}
 use Rattle.dcr_cover.specs.declared.text.CoverStop.TheVariants as cover
 use Rattle.dcr_cover.proofs.RefusalLemmas.{refuses_name, name_refused, refuses_text, text_refused, uncovered_told, told_uncovered_from, cover_from_told, told_from_cover}
 use Rattle.dcr_journal.specs.declared.call.Call.{Call}
+use Rattle.dcr_reading.specs.Accepted.{atom_names}
 use Rattle.dcr_json.specs.Case.{value_in, case_in}
-use Rattle.dcr_json.specs.Judged.{Spelled, atom_names, name_at, by_clash, by_cover, unclashed, owners_in, sessions_told, judged}
+use Rattle.dcr_json.specs.Judged.{Spelled, name_at, by_clash, by_cover, unclashed, owners_in, sessions_told, judged}
 use Rattle.dcr_json.specs.Refusing.{found_or, lifted, stop_of}
 use Rattle.dcr_json.specs.Refusals.{SpellsJson, Writes, HasNodes, IsUnclashed, sites_of, HasCover, Comes, SpellsCase, RefusalsAreTheFormats, CasesAreTheFormats, OneOfTheTwo}
 use Rattle.dcr_json.specs.declared.case.CaseStop.{CaseStop}

@@ -3,8 +3,8 @@
 use Rattle.std.specs.Prelude.{ℕ, List, [], map, slice_index_or, Option, Some, None, Result, Ok, Err}
 use Rattle.dcr_graph.specs.Pairs.{first_clash}
 use Rattle.dcr_graph.specs.declared.marking.Marking.{Marking}
-use Rattle.dcr_nest.specs.Nest.{Nest, names_of, parents_of}
-use Rattle.dcr_nest.specs.FlatRelation.{flat_relation, of_atoms}
+use Rattle.dcr_nest.specs.Nest.{Nest}
+use Rattle.dcr_nest.specs.FlatRelation.{flat_relation}
 use Rattle.dcr_proj.specs.CoverValue.{Owners}
 use Rattle.dcr_shape.specs.Parts.{Site}
 use Rattle.dcr_shape.specs.Stages.{◌>>=◌, each_from}
@@ -15,6 +15,8 @@ use Rattle.dcr_cover.specs.declared.text.CoverStop.{CoverStop}
 use Rattle.dcr_cover.specs.declared.text.CoverStop.TheVariants as cover
 use Rattle.dcr_journal.specs.declared.call.Call.{Call}
 use Rattle.dcr_line.specs.CallLine.{call_in}
+use Rattle.dcr_reading.specs.Accepted.{atom_names}
+use Rattle.dcr_reading.specs.Lent.{texts_of}
 use Rattle.dcr_json.specs.Refusing.{found_or}
 use Rattle.dcr_json.specs.declared.case.CaseStop.{CaseStop}
 use Rattle.dcr_json.specs.declared.case.CaseStop.TheVariants.{Clash, SiteName, Owned, Uncovered, CallLine, NoMemory}
@@ -25,10 +27,6 @@ pub record Spelled : Type 0 where
   pub cover : Owners
   pub opening : Marking
   pub sessions : List (List Call)
-
--- the names of the atoms
-abbrev pub atom_names : Nest → List (List ℕ)
-atom_names N = of_atoms (parents_of N.nodes) (names_of N.nodes)
 
 -- the name with a number
 abbrev pub name_at : List (List ℕ) → ℕ → List ℕ
@@ -49,10 +47,6 @@ by_cover names (Err (cover.SiteName i)) = Err (SiteName i)
 by_cover names (Err (cover.Owned i j)) = Err (Owned i j)
 by_cover names (Err (cover.Uncovered a)) = Err (Uncovered (name_at names a))
 by_cover names (Err cover.NoMemory) = Err NoMemory
-
--- a site with its texts
-abbrev pub texts_of : Site → List ℕ × List (List ℕ)
-texts_of site = (site.name, site.owned)
 
 unfoldable pub owners_in : Nest → List Site → Result Owners CaseStop
 owners_in N sites = by_cover (atom_names N) (cover_told N (map texts_of sites))

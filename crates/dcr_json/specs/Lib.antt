@@ -2,5 +2,4 @@ pub mod Refusing
 pub mod Judged
 pub mod Case
 pub mod Built
-pub mod Lent
 pub mod Refusals

@@ -24,8 +24,10 @@ use Rattle.dcr_cover.specs.Refusals.{AreCover, IsUncovered, RefusesName, Refuses
 use Rattle.dcr_journal.specs.Run.{IsInRange}
 use Rattle.dcr_journal.specs.declared.call.Call.{Call}
 use Rattle.dcr_line.specs.Line.{call_text}
+use Rattle.dcr_reading.specs.Accepted.{atom_names}
+use Rattle.dcr_reading.specs.Lent.{texts_of}
 use Rattle.dcr_json.specs.Case.{case_in}
-use Rattle.dcr_json.specs.Judged.{Spelled, atom_names, name_at, texts_of}
+use Rattle.dcr_json.specs.Judged.{Spelled, name_at}
 use Rattle.dcr_json.specs.declared.case.CaseStop.{CaseStop}
 use Rattle.dcr_json.specs.declared.case.CaseStop.TheVariants.{TooLong, NotJson, Shape, Limit, EventName, Parent, MarkOnNest, RelationEnd, Clash, SiteName, Owned, Uncovered, CallLine, NoMemory}
 

@@ -2,8 +2,9 @@ ghost use Rattle.std.specs.Prelude.{◌≡◌, ◌≢◌, ◌<◌, length, IfOk,
 ghost use Rattle.dcr_limit.specs.Limits.{limits_in};
 ghost use Rattle.dcr_nest.specs.FlatRelation.{IsFlattening};
 ghost use Rattle.dcr_nodes.specs.Nodes.{nodes_in};
+ghost use Rattle.dcr_reading.specs.Accepted.{atom_names};
 ghost use Rattle.dcr_json.specs.Built.{case_of, IsCase};
-ghost use Rattle.dcr_json.specs.Judged.{atom_names, judged, name_at, unclashed};
+ghost use Rattle.dcr_json.specs.Judged.{judged, name_at, unclashed};
 ghost use Rattle.dcr_json.specs.Refusing.{Says};
 
 use crate::calls::read_sessions;

@@ -1,15 +1,15 @@
-ghost use Rattle.std.specs.Prelude.{◌≡◌, ◌≤◌, length, IfOk, OnOk};
+ghost use Rattle.std.specs.Prelude.{◌≤◌, IfOk};
 ghost use Rattle.serde_json.specs.View.{view};
-ghost use Rattle.dcr_size.specs.Laws.{json_in};
 ghost use Rattle.dcr_size.specs.Size.{size};
 ghost use Rattle.dcr_json.specs.Built.{case_of, IsCase};
 ghost use Rattle.dcr_json.specs.Case.{case_in, value_in};
-ghost use Rattle.dcr_json.specs.Refusing.{Says, found_or};
+ghost use Rattle.dcr_json.specs.Refusing.{Says};
 
 use crate::judge::judge;
 use crate::{Case, CaseStop};
 use dcr_limit::try_limits;
 use dcr_nodes::read_nodes;
+use dcr_reading::read_json;
 use dcr_shape::read_shape;
 use serde_json::Value;
 use std::alloc::Global;
@@ -27,27 +27,11 @@ pub fn read_case(alloc: Global, bytes: &[u8]) -> Result<Case, CaseStop>
     if bytes.len() > MAX_BYTES {
         return Err(CaseStop::TooLong);
     }
-    let value = read_json(alloc, bytes)?;
+    let Some(value) = read_json(alloc, bytes)? else {
+        return Err(CaseStop::NotJson);
+    };
     let case = read_value(alloc, &value)?;
     Ok(case)
-}
-
-// The JSON value that the bytes are.
-#[tactic(auto, unfolding(dcr_size::specs::Laws::json_in))]
-fn read_json(alloc: Global, bytes: &[u8]) -> Result<Value, CaseStop>
-    requires { length bytes.now ≤ 16777216 }
-    ensures json { Says view result (found_or CaseStop.NotJson (json_in bytes.now)) }
-    ensures size { IfOk result (λ value. size (view value) ≤ 16777216) }
-{
-    match Value::from_slice(alloc, bytes) {
-        Ok(value) => Ok(value),
-        Err(error) => {
-            if error.is_memory() {
-                return Err(CaseStop::NoMemory);
-            }
-            Err(CaseStop::NotJson)
-        }
-    }
 }
 
 // The case that a value spells.

@@ -1,41 +1,17 @@
-ghost use Rattle.std.specs.Prelude.{◌≡◌, ◌≢◌, ◌<◌, ◌≤◌, ◌^◌, length, map, All, IfOk, Err, ℕ};
+ghost use Rattle.std.specs.Prelude.{◌≡◌, ◌≢◌, ◌<◌, ◌≤◌, length, All, IfOk, Err, ℕ};
 ghost use Rattle.dcr_nest.specs.FlatRelation.{IsFlattening};
-ghost use Rattle.dcr_json.specs.Judged.{by_cover, name_at, owners_in, texts_of};
-ghost use Rattle.dcr_json.specs.Lent.{texts_lent};
+ghost use Rattle.dcr_json.specs.Judged.{by_cover, name_at, owners_in};
 ghost use Rattle.dcr_json.specs.Refusing.{Says};
 
 use crate::CaseStop;
-use dcr_cover::{AsSiteText, CoverStop, check_texts};
+use dcr_cover::{CoverStop, check_texts};
 use dcr_graph::Graph;
 use dcr_nest::Nested;
 use dcr_proj::Cover;
-use dcr_set::{EventId, NoMemory};
-use dcr_shape::{WrittenSite, WrittenSites};
+use dcr_reading::lend;
+use dcr_set::EventId;
+use dcr_shape::WrittenSites;
 use std::alloc::Global;
-
-// A site of a case file. It lends its texts to the check of a cover, so that none is copied.
-#[derive(Drop)]
-pub(crate) struct LentSite<'v> {
-    pub site: WrittenSite<'v>,
-}
-
-impl<'v> AsSiteText for LentSite<'v> {
-    ghost use Rattle.dcr_json.specs.Lent.{texts_lent as lent};
-
-    ghost written = { lent };
-
-    fn name(&self) -> &str {
-        self.site.name
-    }
-
-    fn owned_len(&self) -> usize {
-        self.site.owned.len()
-    }
-
-    fn owned_text(&self, j: usize) -> &str {
-        self.site.owned.get(j)
-    }
-}
 
 // The cover that the sites mean, or the refusal of it.
 #[tactic(auto, unfolding(crate::specs::Judged::owners_in))]
@@ -56,18 +32,6 @@ pub(crate) fn read_cover(
         Ok(cover) => Ok(cover),
         Err(stop) => Err(refused_cover(alloc, graph, stop)),
     }
-}
-
-// The sites in a list.
-fn lend<'v>(alloc: Global, sites: &WrittenSites<'v>) -> Result<Vec<LentSite<'v>>, NoMemory>
-    ensures texts { IfOk result (λ lent. map texts_lent lent.items ≡ map texts_of sites.now) }
-    ensures few { IfOk result (λ lent. All (λ site. length (texts_lent site).1 < 2 ^ 32) lent.items) }
-{
-    let mut lent = Vec::with_capacity(alloc, sites.len())?;
-    for i in 0..sites.len() {
-        lent.push(LentSite { site: sites.get(i) })?;
-    }
-    Ok(lent)
 }
 
 // The refusal of a cover, with the name of an atom that no site owns.

@@ -27,7 +27,7 @@ use Rattle.dcr_cover.proofs.RefusalLemmas.{cover_from_told, told_from_cover}
 use Rattle.dcr_shape.specs.declared.stop.ReadStop.{ReadStop}
 use Rattle.dcr_shape.specs.declared.written.Written.{Written as FileWritten}
 use Rattle.dcr_canon.specs.CoverText.{cover_value}
-use Rattle.dcr_reading.specs.Accepted.{AreNames, IsAcceptedCover, atom_names}
+use Rattle.dcr_reading.specs.Accepted.{AreAllNames, IsAcceptedCover, atom_names}
 use Rattle.dcr_reading.specs.File.{cover_file}
 use Rattle.dcr_reading.specs.Found.{cover_found, told_found, written_in}
 use Rattle.dcr_reading.specs.Lent.{texts_of}
@@ -82,7 +82,7 @@ any_found {X = X} p (x ∷ xs) d e = at (p x) refl (any_found p xs d)
     at false is rest = let more = rest (sym (ap (λ b. b || list_any p xs) is) ∙ e) in (suc more.0, (let l = more.1 in omega arith), more.2)
 
 -- the names of atoms are names where those of nodes are
-pub atom_names_are : (N : Nest) → AreNames (names_of N.nodes) → AreNames (atom_names N)
+pub atom_names_are : (N : Nest) → AreAllNames (names_of N.nodes) → AreAllNames (atom_names N)
 atom_names_are N are = All-map (λ name. is_name name ≡ true) (λ x. get_or (names_of N.nodes) x []) (atoms (parents_of N.nodes)) (λ k d l.
     let within = atoms-within (parents_of N.nodes) k d l in
     let parents = length-map N.nodes (λ (node : Node). node.parent) in
@@ -231,11 +231,11 @@ module _ (N : Nest) (nested : IsNested N) (C : Owners) (ok : IsAcceptedCover N C
 
 -- ---- what is found has names that are names
 
-pub told_names : (N : Nest) (r : Result FileWritten ReadStop) (C : Owners) → Some C ≡ told_found N r → AreNames C.names
+pub told_names : (N : Nest) (r : Result FileWritten ReadStop) (C : Owners) → Some C ≡ told_found N r → AreAllNames C.names
 told_names N (Err stop) C found = absurd cc
 told_names N (Ok w) C found = at (cover_told N (map texts_of w.sites)) refl found
   where
-    at : (r : Result Owners CoverStop) → cover_told N (map texts_of w.sites) ≡ r → Some C ≡ cover_found r → AreNames C.names
+    at : (r : Result Owners CoverStop) → cover_told N (map texts_of w.sites) ≡ r → Some C ≡ cover_found r → AreAllNames C.names
     at (Err stop) is told = absurd cc
     at (Ok D) is told = λ k d l.
         let site_texts = map texts_of w.sites in

@@ -12,7 +12,7 @@ use Rattle.dcr_proj.specs.CoverValue.{Owners}
 use Rattle.dcr_set.specs.EventSet.{Set}
 use Rattle.dcr_canon.specs.CoverText.{site_value, cover_value, cover_text}
 use Rattle.dcr_canon.specs.Laws.{AreJson}
-use Rattle.dcr_reading.specs.Accepted.{AreNames, IsAcceptedCover, IsCoverIn, atom_names}
+use Rattle.dcr_reading.specs.Accepted.{AreAllNames, IsAcceptedCover, IsCoverIn, atom_names}
 use Rattle.dcr_reading.specs.File.{cover_file}
 use Rattle.dcr_reading.specs.Found.{told_found, written_in}
 use Rattle.dcr_reading.proofs.CoverLemmas.{cover_is_found}
@@ -26,7 +26,7 @@ rooms_few N C nested ok i = elim (cases_lt i (length C.owned)) [
   | inr past ↦ (let none : length (get_or C.owned i []) ≡ 0 = ap (λ (set : Set). length set) (get_or_past C.owned i [] past) in omega arith)
 ]
 
-text_short : (N : Nest) (C : Owners) → IsNested N → AreNames (atom_names N) → IsAcceptedCover N C → length (cover_text (atom_names N) C) ≤ 33554432
+text_short : (N : Nest) (C : Owners) → IsNested N → AreAllNames (atom_names N) → IsAcceptedCover N C → length (cover_text (atom_names N) C) ≤ 33554432
 unfolding cover_text cover_value
 text_short N C nested are ok =
     let short = names_short (atom_names N) are in
@@ -36,7 +36,7 @@ text_short N C nested are ok =
     let many = length-range_with_len 0 (length C.names) in
     let few = ok.is_cover.most_sites in omega arith
 
-module _ (law : AreJson) (N : Nest) (nested : IsNested N) (are : AreNames (atom_names N)) (bytes : List ℕ) where
+module _ (law : AreJson) (N : Nest) (nested : IsNested N) (are : AreAllNames (atom_names N)) (bytes : List ℕ) where
   text_json : (C : Owners) → IsAcceptedCover N C → bytes ≡ cover_text (atom_names N) C → json_in bytes ≡ Some (cover_value (atom_names N) C)
   text_json C ok same = ap json_in same ∙ law.cover (atom_names N) C (names_utf8 (atom_names N) are) (names_utf8 C.names ok.names)
 

@@ -42,7 +42,7 @@ use Rattle.dcr_nodes.specs.declared.nodes.Nodes.{Nodes}
 use Rattle.dcr_nodes.proofs.NameLemmas.{before_found, name_new}
 use Rattle.dcr_nodes.proofs.NodeLemmas.{as_many_atoms, mark_passed}
 use Rattle.dcr_canon.specs.GraphText.{name_value, parent_member, node_value, event_values, kind_text, relation_value, relation_values, graph_value}
-use Rattle.dcr_reading.specs.Accepted.{AreNames, IsAcceptedGraph}
+use Rattle.dcr_reading.specs.Accepted.{AreAllNames, IsAcceptedGraph}
 use Rattle.dcr_reading.specs.File.{graph_file}
 use Rattle.dcr_reading.specs.Found.{nested_found, nodes_of}
 use Rattle.dcr_reading.proofs.NamedLemmas.{named, new_before}
@@ -149,7 +149,7 @@ shape_is N nested =
 same_names : (N : Nest) → event_names (events_of N) ≡ names_of N.nodes
 same_names N = map-map (λ (event : Event). event.name) (event_of (names_of N.nodes)) N.nodes
 
-names_are : (N : Nest) → IsNested N → AreNames (names_of N.nodes) → names_in (events_of N) ≡ Ok (names_of N.nodes)
+names_are : (N : Nest) → IsNested N → AreAllNames (names_of N.nodes) → names_in (events_of N) ≡ Ok (names_of N.nodes)
 unfolding names_in
 names_are N nested are =
     let names = names_of N.nodes in
@@ -205,7 +205,7 @@ pairs_are N nested =
 abbrev read_of : Nest → Nodes
 read_of N = record { nested = nest (version_in (as_written N.version)) N.nodes N.relations; opening = opening_in (atoms (parents_of N.nodes)) (events_of N) }
 
-nodes_are : (N : Nest) → IsNested N → AreNames (names_of N.nodes) → nodes_in (file_of N) ≡ Ok (read_of N)
+nodes_are : (N : Nest) → IsNested N → AreAllNames (names_of N.nodes) → nodes_in (file_of N) ≡ Ok (read_of N)
 unfolding nodes_in
 nodes_are N nested are =
     after_is _ _ (names_of N.nodes) _ (names_are N nested are)
@@ -221,7 +221,7 @@ labels_short N labels = All-map HasShortLabel (event_of (names_of N.nodes)) N.no
     let here : get_or (labels_of N.nodes) k [] ≡ node.label = get_or-map (λ (n : Node). n.label) N.nodes k d [] l in
     leb-true (length node.label) 200 (ap is_label (sym here) ∙ short))
 
-kept : (N : Nest) → IsNested N → AreNames (names_of N.nodes) → All (λ label. is_label label ≡ true) (labels_of N.nodes) → (k : LimitKind) → KeepsLimit (file_of N) k
+kept : (N : Nest) → IsNested N → AreAllNames (names_of N.nodes) → All (λ label. is_label label ≡ true) (labels_of N.nodes) → (k : LimitKind) → KeepsLimit (file_of N) k
 kept N nested are labels kind.Nodes = (let most = nested.most_nodes in let many = length-map N.nodes (event_of (names_of N.nodes)) in omega arith)
 kept N nested are labels kind.Atoms = (let most = nested.most_atoms in let many = as_many_atoms (events_of N) (names_of N.nodes) N.nodes (names_are N nested are) (tree_is N nested) in omega arith)
 kept N nested are labels kind.Relations = (let most = nested.most_relations in let many = length-map N.relations (relation_of (names_of N.nodes)) in omega arith)
@@ -230,7 +230,7 @@ kept N nested are labels kind.Sites = (omega arith, omega arith)
 kept N nested are labels kind.Sessions = omega arith
 kept N nested are labels kind.Calls = omega arith
 
-limits_are : (N : Nest) → IsNested N → AreNames (names_of N.nodes) → All (λ label. is_label label ≡ true) (labels_of N.nodes) → limits_in (file_of N) ≡ Ok tt
+limits_are : (N : Nest) → IsNested N → AreAllNames (names_of N.nodes) → All (λ label. is_label label ≡ true) (labels_of N.nodes) → limits_in (file_of N) ≡ Ok tt
 limits_are N nested are labels = ((limits_law (file_of N)).given.1 (kept N nested are labels)).1
 
 -- ---- the whole
@@ -239,7 +239,7 @@ version_back : (version : Version) → version_in (as_written version) ≡ versi
 version_back V1 = refl
 version_back V2 = refl
 
-found_own : (N : Nest) → IsNested N → AreNames (names_of N.nodes) → All (λ label. is_label label ≡ true) (labels_of N.nodes) → nested_found (nodes_of (graph_file N.version (graph_value N))) ≡ Some N
+found_own : (N : Nest) → IsNested N → AreAllNames (names_of N.nodes) → All (λ label. is_label label ≡ true) (labels_of N.nodes) → nested_found (nodes_of (graph_file N.version (graph_value N))) ≡ Some N
 unfolding nodes_of
 found_own N nested are labels =
     ap nested_found (after_is _ _ (file_of N) _ (written_is _ (file_of N) (shape_is N nested) (limits_are N nested are labels)) (nodes_are N nested are))

@@ -8,7 +8,7 @@ use Rattle.json.proofs.Printed.Utf8.{are_ascii, IsUtf8-are_ascii}
 use Rattle.dcr_graph.specs.Names.{is_between, is_letter, is_name_byte, is_name, is_label}
 use Rattle.dcr_nest.specs.Nest.{names_of, labels_of}
 use Rattle.dcr_nest.specs.declared.node.Node.{Node}
-use Rattle.dcr_reading.specs.Accepted.{AreNames}
+use Rattle.dcr_reading.specs.Accepted.{AreAllNames}
 
 either : (a b : Bool) → (a || b) ≡ true → (a ≡ true) ⊎ (b ≡ true)
 either true b e = inl refl
@@ -61,11 +61,11 @@ name_short (x ∷ text) e =
     let q = and_parts (nat_le (length text) 63) (list_all is_name_byte text) p.1 in
     let few : length text ≤ 63 = leb-true (length text) 63 q.0 in omega arith
 
-pub names_utf8 : (names : List (List ℕ)) → AreNames names → All IsUtf8 names
+pub names_utf8 : (names : List (List ℕ)) → AreAllNames names → All IsUtf8 names
 names_utf8 names are = All-weaker (λ name. is_name name ≡ true) IsUtf8 name_utf8 names are
 
 -- the name with any number, which is empty where there is none
-pub names_short : (names : List (List ℕ)) → AreNames names → (x : ℕ) → length (get_or names x []) ≤ 64
+pub names_short : (names : List (List ℕ)) → AreAllNames names → (x : ℕ) → length (get_or names x []) ≤ 64
 names_short names are x = elim (cases_lt x (length names)) [
   | inl within ↦ name_short (get_or names x []) (are x [] within)
   | inr past ↦ (let none : length (get_or names x []) ≡ 0 = ap (λ (name : List ℕ). length name) (get_or_past names x [] past) in omega arith)
@@ -77,7 +77,7 @@ pub record IsSeen (node : Node) : Type 0 where
   pub label : is_label node.label ≡ true
   pub text : IsUtf8 node.label
 
-pub names_seen : (nodes : List Node) → All IsSeen nodes → AreNames (names_of nodes)
+pub names_seen : (nodes : List Node) → All IsSeen nodes → AreAllNames (names_of nodes)
 names_seen nodes seen = All-map (λ name. is_name name ≡ true) (λ (node : Node). node.name) nodes (All-weaker IsSeen (λ node. is_name node.name ≡ true) (λ node s. s.name) nodes seen)
 
 pub labels_seen : (nodes : List Node) → All IsSeen nodes → All (λ label. is_label label ≡ true) (labels_of nodes)

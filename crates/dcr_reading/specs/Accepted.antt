@@ -12,15 +12,15 @@ use Rattle.dcr_canon.specs.GraphText.{graph_text}
 use Rattle.dcr_canon.specs.CoverText.{cover_text}
 
 -- each is a name
-abbrev pub AreNames : List (List ℕ) → Type 0
-AreNames names = All (λ name. is_name name ≡ true) names
+abbrev pub AreAllNames : List (List ℕ) → Type 0
+AreAllNames names = All (λ name. is_name name ≡ true) names
 
 -- a nested graph of this version that no refusal of a case file refuses: within the limits, distinct names that are
 -- names, each parent earlier, labels that are labels, and no pair of atoms both included and excluded
 pub record IsAcceptedGraph (version : Version) (N : Nest) : Type 0 where
   pub of_version : N.version ≡ version
   pub nested : IsNested N
-  pub names : AreNames (names_of N.nodes)
+  pub names : AreAllNames (names_of N.nodes)
   pub labels : All (λ label. is_label label ≡ true) (labels_of N.nodes)
   pub texts : All IsUtf8 (labels_of N.nodes)
   pub unclashed : first_clash (flat_relation N) ≡ None
@@ -33,7 +33,7 @@ atom_names N = of_atoms (parents_of N.nodes) (names_of N.nodes)
 -- of the atoms for each, and each atom owned
 pub record IsAcceptedCover (N : Nest) (cover : Owners) : Type 0 where
   pub is_cover : IsCover cover
-  pub names : AreNames cover.names
+  pub names : AreAllNames cover.names
   pub rooms : All (λ set. length set ≡ length (atoms (parents_of N.nodes))) cover.owned
 
 -- ---- what a reader finds

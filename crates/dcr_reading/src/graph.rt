@@ -8,7 +8,7 @@ ghost use Rattle.dcr_nest.specs.Nest.{names_of, labels_of};
 ghost use Rattle.dcr_canon.specs.GraphText.{graph_text};
 ghost use Rattle.dcr_shape.specs.Says.{Says};
 ghost use Rattle.dcr_size.specs.Size.{size};
-ghost use Rattle.dcr_reading.specs.Accepted.{AreNames, IsGraphIn};
+ghost use Rattle.dcr_reading.specs.Accepted.{AreAllNames, IsGraphIn};
 ghost use Rattle.dcr_reading.specs.Found.{nested_found, nodes_of};
 
 use crate::file::{graph_file, read_written};
@@ -98,7 +98,7 @@ fn is_unclashed(alloc: Global, nested: &Nested) -> Result<bool, NoMemory>
 
 /// The names of nodes are names and their labels are labels: each is looked at once, which says so.
 pub(crate) fn see_texts(nodes: &[Node])
-    ensures names { AreNames (names_of nodes.now) }
+    ensures names { AreAllNames (names_of nodes.now) }
     ensures labels { All (λ label. is_label label ≡ true) (labels_of nodes.now) }
     ensures texts { All IsUtf8 (labels_of nodes.now) }
 {

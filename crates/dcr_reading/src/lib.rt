@@ -1,4 +1,5 @@
-//! The readers of the canonical texts of a nested graph and of a cover, for the replay of reports.
+//! The readers of the canonical texts of a nested graph and of a cover, for the replay of reports, and what they share
+//! with the reader of case files: the JSON value of bytes, and sites that lend their texts.
 #![tactic(auto)]
 
 mod cover;
@@ -13,3 +14,5 @@ mod value;
 pub use cover::read_cover_text;
 pub use graph::read_graph_text;
 pub use laws::accepted_texts_mean_one;
+pub use sites::{LentSite, lend};
+pub use value::read_json;

@@ -6,9 +6,10 @@ use dcr_set::NoMemory;
 use dcr_shape::{WrittenSite, WrittenSites};
 use std::alloc::Global;
 
-// A site of a file. It lends its texts to the check of a cover, so that none is copied.
+/// A site of a file. It lends its texts to the check of a cover, so that none is copied.
 #[derive(Drop)]
-pub(crate) struct LentSite<'v> {
+pub struct LentSite<'v> {
+    /// The site as it is written.
     pub site: WrittenSite<'v>,
 }
 
@@ -30,11 +31,9 @@ impl<'v> AsSiteText for LentSite<'v> {
     }
 }
 
-// The sites in a list.
-pub(crate) fn lend<'v>(
-    alloc: Global,
-    sites: &WrittenSites<'v>,
-) -> Result<Vec<LentSite<'v>>, NoMemory>
+/// The sites of a file as a list, in their order, each of which lends its texts. `NoMemory` where memory could not
+/// be had.
+pub fn lend<'v>(alloc: Global, sites: &WrittenSites<'v>) -> Result<Vec<LentSite<'v>>, NoMemory>
     ensures texts { IfOk result (λ lent. map texts_lent lent.items ≡ map texts_of sites.now) }
     ensures few { IfOk result (λ lent. All (λ site. length (texts_lent site).1 < 2 ^ 32) lent.items) }
 {

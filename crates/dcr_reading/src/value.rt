@@ -10,11 +10,11 @@ use std::alloc::Global;
 /// The most bytes of a canonical text: each text of a graph or a cover within the limits is shorter.
 pub(crate) const MAX_BYTES: usize = 33_554_432;
 
-/// The JSON value that the bytes are. None exactly where they are none.
-pub(crate) fn read_json(alloc: Global, bytes: &[u8]) -> Result<Option<Value>, NoMemory>
-    requires { length bytes.now ≤ 33554432 }
+/// The JSON value that the bytes are: its size is at most their number. None exactly where they are none.
+/// `NoMemory` where memory could not be had.
+pub fn read_json(alloc: Global, bytes: &[u8]) -> Result<Option<Value>, NoMemory>
     ensures json { IfOk result (λ found. option_map view found ≡ json_in bytes.now) }
-    ensures size { IfOk result (λ found. IfSome found (λ value. size (view value) ≤ 33554432)) }
+    ensures size { IfOk result (λ found. IfSome found (λ value. size (view value) ≤ length bytes.now)) }
 {
     match Value::from_slice(alloc, bytes) {
         Ok(value) => Ok(Some(value)),

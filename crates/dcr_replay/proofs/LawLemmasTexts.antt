@@ -18,11 +18,8 @@ use Rattle.dcr_line.proofs.NameLemmas.{name_lacks}
 use Rattle.dcr_line.proofs.NumberLemmas.{decimal_lacks}
 use Rattle.dcr_line.proofs.PiecesLemmas.{lacks}
 use Rattle.dcr_canon.specs.Laws.{IsOneLine}
+use Rattle.dcr_reading.specs.Accepted.{AreAllNames}
 use Rattle.dcr_report.specs.Report.{entry_lines, site_text, site_lines, verdict_text, end_lines}
-
--- each is a name
-abbrev pub AreAllNames : List (List ℕ) → Type 0
-AreAllNames names = All (λ text. is_name text ≡ true) names
 
 -- what the laws of canonical texts say, as a test
 pub one_line : (text : List ℕ) → IsOneLine text → lacks 10 text ≡ true

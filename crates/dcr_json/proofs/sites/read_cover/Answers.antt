@@ -1,7 +1,7 @@
 use Rattle.std.proofs.Common.{◌<◌, Err, length, map, sym, ap, subst, ◌∙◌}
 use Rattle.dcr_nest.specs.Nest.{parents_of, names_of}
 use Rattle.dcr_nest.proofs.FlatLemmas.{length-of_atoms}
-use Rattle.dcr_json.specs.Lent.{texts_lent}
+use Rattle.dcr_reading.specs.Lent.{texts_lent}
 use Rattle.dcr_json.proofs.JudgeLemmas.{uncovered_atom, not_memory}
 use Rattle.dcr_json.proofs.sites.read_cover.Goals as goal
 

@@ -7,7 +7,7 @@ use Rattle.dcr_nest.specs.Tree.{atoms}
 use Rattle.dcr_canon.specs.CoverText.{cover_text}
 use Rattle.dcr_proj.specs.CoverValue.{Owners, IsCover}
 use Rattle.dcr_cover.proofs.CheckLemmas.{length-names}
-use Rattle.dcr_reading.specs.Accepted.{AreNames}
+use Rattle.dcr_reading.specs.Accepted.{AreAllNames}
 use Rattle.dcr_reading.specs.Found.{written_in}
 use Rattle.dcr_reading.proofs.CoverLemmas.{atom_names_are, told_names}
 use Rattle.dcr_reading.proofs.CoverNoneLemmas.{none_long, none_json, none_file, none_text}
@@ -17,19 +17,19 @@ use Rattle.dcr_reading.proofs.cover.read_cover_text.Goals as goal
 pub returns-then-bytes-gt-MAX_BYTES : goal.returns-then-bytes-gt-MAX_BYTES
 returns-then-bytes-gt-MAX_BYTES c =
     let N = c.args.nested.now in
-    let names = atom_names_are N (subst (λ nodes. AreNames (names_of nodes)) c.nodes.ensures.nodes c.see_texts.ensures.names) in
+    let names = atom_names_are N (subst (λ nodes. AreAllNames (names_of nodes)) c.nodes.ensures.nodes c.see_texts.ensures.names) in
     none_long c.canonical_texts_are_json.ensures N c.nodes.ensures.nested names c.args.bytes.now c.if-bytes-gt-MAX_BYTES.true
 
 pub returns-in_default : goal.returns-in_default
 returns-in_default c =
     let N = c.args.nested.now in
-    let names = atom_names_are N (subst (λ nodes. AreNames (names_of nodes)) c.nodes.ensures.nodes c.see_texts.ensures.names) in
+    let names = atom_names_are N (subst (λ nodes. AreAllNames (names_of nodes)) c.nodes.ensures.nodes c.see_texts.ensures.names) in
     none_json c.canonical_texts_are_json.ensures N c.nodes.ensures.nested names c.args.bytes.now (ap (option_map view) (sym c.in_default.is) ∙ c.in_ok-value.ensures.json)
 
 pub returns-in_default-2 : goal.returns-in_default-2
 returns-in_default-2 c =
     let N = c.args.nested.now in
-    let names = atom_names_are N (subst (λ nodes. AreNames (names_of nodes)) c.nodes.ensures.nodes c.see_texts.ensures.names) in
+    let names = atom_names_are N (subst (λ nodes. AreAllNames (names_of nodes)) c.nodes.ensures.nodes c.see_texts.ensures.names) in
     none_file c.canonical_texts_are_json.ensures N c.nodes.ensures.nested names c.args.bytes.now (record {
       value = view c.in-Some.value;
       file = view c.in_ok-file.file;
@@ -41,7 +41,7 @@ returns-in_default-2 c =
 pub returns-then-not-branch : goal.returns-then-not-branch
 returns-then-not-branch c =
     let N = c.args.nested.now in
-    let names = atom_names_are N (subst (λ nodes. AreNames (names_of nodes)) c.nodes.ensures.nodes c.see_texts.ensures.names) in
+    let names = atom_names_are N (subst (λ nodes. AreAllNames (names_of nodes)) c.nodes.ensures.nodes c.see_texts.ensures.names) in
     let differ = told_no (c.args.bytes.now ≡ cover_text c.args.graph.now.names c.in-Some-2.cover) (c.args.bytes.now ≢ cover_text c.args.graph.now.names c.in-Some-2.cover)
     c.in_ok-is_cover_text.field-0 c.in_ok-is_cover_text.ensures c.if-not-branch.true in
     none_text c.canonical_texts_are_json.ensures N c.nodes.ensures.nested names c.args.bytes.now c.in-Some-2.cover (record {

@@ -6,7 +6,7 @@ use Rattle.dcr_graph.specs.Pairs.{first_clash}
 use Rattle.dcr_nest.specs.FlatRelation.{flat_relation}
 use Rattle.dcr_nest.specs.Nest.{names_of, labels_of}
 use Rattle.dcr_canon.specs.GraphText.{graph_text}
-use Rattle.dcr_reading.specs.Accepted.{AreNames}
+use Rattle.dcr_reading.specs.Accepted.{AreAllNames}
 use Rattle.dcr_reading.specs.Found.{nested_found, nodes_of}
 use Rattle.dcr_reading.proofs.GraphLemmas.{found_version}
 use Rattle.dcr_reading.proofs.GraphNoneLemmas.{none_long, none_json, none_file, none_text, none_clash, IsRead}
@@ -58,7 +58,7 @@ returns c =
       record {
         of_version = found_version c.args.version (view c.in-Some.value) N (sym c.in-Some-2.is ∙ c.in_ok-nested.ensures ∙ ap (λ d. nested_found (nodes_of d)) c.in_ok-file.ensures.file);
         nested = c.nodes.ensures.nested;
-        names = subst (λ nodes. AreNames (names_of nodes)) c.nodes.ensures.nodes c.see_texts.ensures.names;
+        names = subst (λ nodes. AreAllNames (names_of nodes)) c.nodes.ensures.nodes c.see_texts.ensures.names;
         labels = subst (λ nodes. All (λ label. is_label label ≡ true) (labels_of nodes)) c.nodes.ensures.nodes c.see_texts.ensures.labels;
         texts = subst (λ nodes. All IsUtf8 (labels_of nodes)) c.nodes.ensures.nodes c.see_texts.ensures.texts;
         unclashed = told_yes (first_clash (flat_relation N) ≡ None) (first_clash (flat_relation N) ≢ None) c.in_ok-is_unclashed.field-0 c.in_ok-is_unclashed.ensures c.if-not-branch-2.false;
