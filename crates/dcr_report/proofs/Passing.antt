@@ -7,6 +7,7 @@ use Rattle.std.proofs.lemmas.List.{append-nil, take_at, take-append-drop, length
 use Rattle.std.proofs.lemmas.Option.{slice_get_within, get_or_from_slice_get}
 use Rattle.dcr_base.specs.Count.{Rose}
 use Rattle.dcr_report.specs.Passed.{Passes, StopsWithin}
+use Rattle.dcr_report.specs.Report.{line, lines_text}
 use Rattle.dcr_report.specs.declared.report.ReportStop.{ReportStop}
 use Rattle.dcr_report.specs.declared.report.ReportStop.TheVariants.{WriteFault, NoMemory}
 
@@ -54,7 +55,7 @@ pub StopsWithin-next : {stop told : ReportStop} {a b c : Option (List ℕ)} {sta
 StopsWithin-next {e = e} {f = f} {g = g} rest before never here is = record {
   left = here.left ++ rest;
   passed = Passes-next rest before here.passed;
-  not_all = λ fault. let some = here.not_all (sym is ∙ fault) in omega (arith, length-append here.left rest);
+  not_all = let some = here.not_all in omega (arith, length-append here.left rest);
   counted = λ fault. Rose-after e f g never (here.counted (sym is ∙ fault));
 }
 
@@ -63,11 +64,11 @@ pub StopsWithin-from : {stop : ReportStop} {a b : Option (List ℕ)} {held grown
 StopsWithin-from e here = record { left = here.left; passed = Passes-from e here.passed; not_all = here.not_all; counted = here.counted }
 
 -- memory ran out before the sink was asked
-pub no_memory_stops : (a : Option (List ℕ)) (held text : List ℕ) (f : ℕ) (stop : ReportStop) → stop ≡ NoMemory → StopsWithin stop a a held text f f
-no_memory_stops a held text f stop is = record {
+pub no_memory_stops : (a : Option (List ℕ)) (held text : List ℕ) (f : ℕ) (stop : ReportStop) → 0 < length text → stop ≡ NoMemory → StopsWithin stop a a held text f f
+no_memory_stops a held text f stop some is = record {
   left = held ++ text;
   passed = Passes-held a held (held ++ text) text refl;
-  not_all = λ fault. let two : NoMemory ≡ WriteFault = sym is ∙ fault in cc;
+  not_all = omega (arith, length-append held text, some);
   counted = λ fault. let two : NoMemory ≡ WriteFault = sym is ∙ fault in cc;
 }
 
@@ -77,7 +78,7 @@ pub fault_stops : (stop : ReportStop) (a b : Option (List ℕ)) (held bytes : Li
 fault_stops stop a b held bytes n f g same front less rose = record {
   left = drop n bytes;
   passed = record { moved = take n bytes; took = front; joined = take-append-drop n bytes ∙ same ∙ sym (append-nil held) };
-  not_all = λ fault. omega (arith, length-drop n bytes);
+  not_all = omega (arith, length-drop n bytes, less);
   counted = λ fault. rose;
 }
 
@@ -113,12 +114,12 @@ pub Passes-left : {a b : Option (List ℕ)} {start left same whole : List ℕ} �
 Passes-left e p = record { moved = p.moved; took = p.took; joined = ap (λ l. p.moved ++ l) e ∙ p.joined }
 
 -- memory ran out on the way
-pub no_memory_after : {a b : Option (List ℕ)} {start left whole : List ℕ} (f g : ℕ) (stop : ReportStop) → stop ≡ NoMemory → Passes a b start left whole
-    → StopsWithin stop a b start whole f g
-no_memory_after {left = left} f g stop is p = record {
-  left = left;
+pub no_memory_after : {a b : Option (List ℕ)} {start whole : List ℕ} (left ending : List ℕ) (f g : ℕ) (stop : ReportStop) → 0 < length ending → stop ≡ NoMemory
+    → Passes a b start (left ++ ending) whole → StopsWithin stop a b start whole f g
+no_memory_after left ending f g stop some is p = record {
+  left = left ++ ending;
   passed = p;
-  not_all = λ fault. let two : NoMemory ≡ WriteFault = sym is ∙ fault in cc;
+  not_all = omega (arith, length-append left ending, some);
   counted = λ fault. let two : NoMemory ≡ WriteFault = sym is ∙ fault in cc;
 }
 
@@ -132,16 +133,20 @@ pub fault_at_end : {a b c : Option (List ℕ)} {start held whole : List ℕ} (by
 fault_at_end {b = b} {c = c} {held = held} bytes n e f g stop before never same front less rose =
     StopsWithin-next {text = []} [] (Passes-left (append-nil held) before) never (fault_stops stop b c held bytes n f g same front less rose) refl
 
--- what a stop leaves in the sink, where nothing was held
-pub front_at_stop : {stop : ReportStop} {a b : Option (List ℕ)} {held text : List ℕ} {f g : ℕ} → held ≡ [] → StopsWithin stop a b held text f g
-    → (n : ℕ) × Appends a b (take n text)
-front_at_stop {a = a} {b = b} {text = text} e s =
-    let p : Passes a b [] s.left text = subst (λ h. Passes a b h s.left text) e s.passed in (length p.moved, front_passed p)
-
-pub part_at_fault : {stop : ReportStop} {a b : Option (List ℕ)} {held text : List ℕ} {f g : ℕ} → held ≡ [] → StopsWithin stop a b held text f g → stop ≡ WriteFault
+-- what a stop leaves in the sink, where nothing was held: a front, and not all
+pub part_at_stop : {stop : ReportStop} {a b : Option (List ℕ)} {held text : List ℕ} {f g : ℕ} → held ≡ [] → StopsWithin stop a b held text f g
     → (n : ℕ) × (n < length text) × Appends a b (take n text)
-part_at_fault {a = a} {b = b} {text = text} e s fault =
-    let p : Passes a b [] s.left text = subst (λ h. Passes a b h s.left text) e s.passed in (length p.moved, not_all_passed p (s.not_all fault), front_passed p)
+part_at_stop {a = a} {b = b} {text = text} e s =
+    let p : Passes a b [] s.left text = subst (λ h. Passes a b h s.left text) e s.passed in (length p.moved, not_all_passed p s.not_all, front_passed p)
+
+-- lines are some bytes where there is one
+pub lines_some : (lines : List (List ℕ)) → 0 < length lines → 0 < length (lines_text lines)
+lines_some [] some = absurd (omega (arith, some))
+lines_some (first ∷ more) some =
+    let all = length-append (first ++ 10 ∷ []) (lines_text more) in let one = length-append first (10 ∷ []) in omega (arith, all, one)
+
+pub line_some : (text : List ℕ) → 0 < length (line text)
+line_some text = let one = length-append text (10 ∷ []) in omega (arith, one)
 
 -- the sink took the last of it
 pub all_at_end : (a b c : Option (List ℕ)) (start held bytes whole : List ℕ) → start ≡ [] → bytes ≡ held → Passes a b start held whole → Appends b c bytes → Appends a c whole

@@ -11,9 +11,9 @@ pub record Passes (before after : Option (List ℕ)) (held left text : List ℕ)
   pub took : Appends before after moved
   pub joined : moved ++ left ≡ held ++ text
 
--- a stop on the way: some of it is left; a fault of the sink leaves something, and the count of faults tells it
+-- a stop on the way: something of it is left, and the count of faults tells a fault of the sink
 pub record StopsWithin (stop : ReportStop) (before after : Option (List ℕ)) (held text : List ℕ) (faults faults_after : ℕ) : Type 0 where
   pub left : List ℕ
   pub passed : Passes before after held left text
-  pub not_all : stop ≡ WriteFault → 0 < length left
+  pub not_all : 0 < length left
   pub counted : stop ≡ WriteFault → Rose faults faults_after

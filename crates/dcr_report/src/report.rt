@@ -71,7 +71,7 @@ impl From<dcr_base::WriteFault> for ReportStop {
 /// run is legal from its opening marking, and its marks and its verdict are those after the history.
 /// `WriteFault` comes where a write failed; the sink then has less than the report, from its front.
 /// `NoMemory` comes where memory for the texts of the graph and the cover, or for the text held back, could
-/// not be had; the sink then has some of the report, from its front.
+/// not be had; the sink then has less than the report too, from its front.
 pub fn write_report<O: Sink>(
     alloc: Global,
     nested: &Nested,
@@ -91,12 +91,10 @@ pub fn write_report<O: Sink>(
         (after (rules_of graph.now) closed.now.opening closed.now.history.entries) }
     ensures all { OnOk result (Appends (O.taken sink.old) (O.taken sink.new)
         (report_text nested.now cover.now closed.now.opening closed.now.history.entries)) }
-    ensures front { OnErr result ((n : ℕ) × Appends (O.taken sink.old) (O.taken sink.new)
-        (take n (report_text nested.now cover.now closed.now.opening closed.now.history.entries))) }
-    ensures not_all { result ≡ Err ReportStop.WriteFault → (n : ℕ)
+    ensures not_all { OnErr result ((n : ℕ)
         × (n < length (report_text nested.now cover.now closed.now.opening closed.now.history.entries))
         × Appends (O.taken sink.old) (O.taken sink.new)
-        (take n (report_text nested.now cover.now closed.now.opening closed.now.history.entries)) }
+        (take n (report_text nested.now cover.now closed.now.opening closed.now.history.entries))) }
     ensures counted { result ≡ Err ReportStop.WriteFault
         → Rose (O.write_faults sink.old) (O.write_faults sink.new) }
     ensures never_falls { O.write_faults sink.old ≤ O.write_faults sink.new }
@@ -117,12 +115,10 @@ pub(crate) fn write_told<O: Sink>(
     requires fits { FitsClosed (length cover.now.owned) (length graph.now.names) closed.now }
     ensures all { OnOk result (Appends (O.taken sink.old) (O.taken sink.new)
         (told_text nested.now cover.now graph.now.names closed.now)) }
-    ensures front { OnErr result ((n : ℕ) × Appends (O.taken sink.old) (O.taken sink.new)
-        (take n (told_text nested.now cover.now graph.now.names closed.now))) }
-    ensures not_all { result ≡ Err ReportStop.WriteFault → (n : ℕ)
+    ensures not_all { OnErr result ((n : ℕ)
         × (n < length (told_text nested.now cover.now graph.now.names closed.now))
         × Appends (O.taken sink.old) (O.taken sink.new)
-        (take n (told_text nested.now cover.now graph.now.names closed.now)) }
+        (take n (told_text nested.now cover.now graph.now.names closed.now))) }
     ensures counted { result ≡ Err ReportStop.WriteFault
         → Rose (O.write_faults sink.old) (O.write_faults sink.new) }
     ensures never_falls { O.write_faults sink.old ≤ O.write_faults sink.new }

@@ -1,7 +1,7 @@
 use Rattle.std.proofs.Common.{ℕ, ◌++◌, length, sym, ap, subst, ◌∙◌, arith}
 use Rattle.dcr_report.specs.FitsClosed.{FitsClosed}
 use Rattle.dcr_report.specs.Report.{lines_text, head_lines, entry_lines, site_lines, end_lines, told_text}
-use Rattle.dcr_report.proofs.Passing.{IfErr-from, Passes-held, Passes-next, Passes-left, StopsWithin-next, no_memory_after}
+use Rattle.dcr_report.proofs.Passing.{IfErr-from, Passes-held, Passes-next, Passes-left, StopsWithin-next, no_memory_after, lines_some}
 use Rattle.dcr_report.proofs.ReportLemmas.{told_parts, cover_room}
 use Rattle.dcr_report.proofs.report.pass_report.Goals as goal
 
@@ -81,7 +81,7 @@ returns-in_err-put_end-clause-stopped g c =
     let middle = Passes-next last head c.in_ok-pass_entries.ensures.passed in
     let marked = Passes-next ending middle c.in_ok-pass_sites.ensures.passed in
     IfErr-from c.from_residual-in_err-put_end.result c.from_residual-in_err-put_end.ensures.1 (λ stop is.
-    no_memory_after _ _ stop is marked)
+    no_memory_after c.pass_sites.new.held.items ending _ _ stop (lines_some (end_lines atoms closed.waits (length entries)) (omega arith)) is marked)
 
 pub returns-clause-passed : goal.returns-clause-passed
 returns-clause-passed g c =

@@ -13,14 +13,8 @@ returns-clause-all g c =
     let All : List ℕ → Type 0 = λ text. Appends (g.O.Sink.taken c.args.sink.now) (g.O.Sink.taken c.write_told.new.sink) text in
     on_ok_weaker c.write_told.result (subst All same) c.write_told.ensures.all
 
-pub returns-clause-front : goal.returns-clause-front
-returns-clause-front g c =
-    let same = told_is_report c.args.nested.now c.args.graph.now c.args.cover.now c.args.closed.now c.requires.flattening c.requires.marks c.requires.verdict in
-    let Front : List ℕ → Type 0 = λ text. (n : ℕ) × Appends (g.O.Sink.taken c.args.sink.now) (g.O.Sink.taken c.write_told.new.sink) (take n text) in
-    on_err_weaker c.write_told.result (subst Front same) c.write_told.ensures.front
-
 pub returns-clause-not_all : goal.returns-clause-not_all
 returns-clause-not_all g c =
     let same = told_is_report c.args.nested.now c.args.graph.now c.args.cover.now c.args.closed.now c.requires.flattening c.requires.marks c.requires.verdict in
     let Part : List ℕ → Type 0 = λ text. (n : ℕ) × (n < length text) × Appends (g.O.Sink.taken c.args.sink.now) (g.O.Sink.taken c.write_told.new.sink) (take n text) in
-    λ fault. subst Part same (c.write_told.ensures.not_all fault)
+    on_err_weaker c.write_told.result (subst Part same) c.write_told.ensures.not_all

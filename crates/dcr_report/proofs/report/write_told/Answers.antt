@@ -1,28 +1,16 @@
-use Rattle.std.proofs.Common.{refl}
 use Rattle.dcr_report.specs.declared.report.ReportStop.TheVariants.{WriteFault}
-use Rattle.dcr_report.proofs.Passing.{OnErr-of, told_is, front_at_stop, part_at_fault, fault_at_end, all_at_end}
+use Rattle.dcr_report.proofs.Passing.{OnErr-of, part_at_stop, fault_at_end, all_at_end}
 use Rattle.dcr_report.proofs.report.write_told.Goals as goal
 
-pub returns-in_err-pass_report-clause-front : goal.returns-in_err-pass_report-clause-front
-returns-in_err-pass_report-clause-front g c = OnErr-of c.from_residual.result _ (front_at_stop c.new-held.ensures.items c.in_err-pass_report.ensures.stopped)
-
 pub returns-in_err-pass_report-clause-not_all : goal.returns-in_err-pass_report-clause-not_all
-returns-in_err-pass_report-clause-not_all g c = λ fault. part_at_fault c.new-held.ensures.items c.in_err-pass_report.ensures.stopped
-    (told_is c.from_residual.result _ _ c.from_residual.ensures.1 fault)
-
-pub returns-in_err-write_all-clause-front : goal.returns-in_err-write_all-clause-front
-returns-in_err-write_all-clause-front g c =
-    let fault = c.in_err-write_all.ensures in
-    OnErr-of c.from_residual-in_err-write_all.result _ (front_at_stop c.new-held.ensures.items
-    (fault_at_end _ _ _ _ _ WriteFault c.in_ok-pass_report.ensures.passed c.in_ok-pass_report.ensures.never_falls
-    c.deref.ensures.value fault.front fault.not_all fault.counted))
+returns-in_err-pass_report-clause-not_all g c = OnErr-of c.from_residual.result _ (part_at_stop c.new-held.ensures.items c.in_err-pass_report.ensures.stopped)
 
 pub returns-in_err-write_all-clause-not_all : goal.returns-in_err-write_all-clause-not_all
 returns-in_err-write_all-clause-not_all g c =
     let fault = c.in_err-write_all.ensures in
-    λ _. part_at_fault c.new-held.ensures.items
+    OnErr-of c.from_residual-in_err-write_all.result _ (part_at_stop c.new-held.ensures.items
     (fault_at_end _ _ _ _ _ WriteFault c.in_ok-pass_report.ensures.passed c.in_ok-pass_report.ensures.never_falls
-    c.deref.ensures.value fault.front fault.not_all fault.counted) refl
+    c.deref.ensures.value fault.front fault.not_all fault.counted))
 
 pub returns-clause-all : goal.returns-clause-all
 returns-clause-all g c = all_at_end _ _ _ _ _ _ _ c.new-held.ensures.items c.deref.ensures.value c.in_ok-pass_report.ensures.passed c.in_ok-write_all.ensures.all
