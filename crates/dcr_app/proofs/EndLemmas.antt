@@ -1,11 +1,12 @@
 -- Ends by the table.
-use Rattle.std.proofs.Common.{◌≡◌, ℕ, ◌<◌, List, [], length, Option, Some, None, inl, inr, refl, sym, subst, take}
+use Rattle.std.proofs.Common.{◌≡◌, ℕ, ◌<◌, List, [], length, Option, Some, None, inl, inr, refl, sym, subst, take, ◌≤◌, ◌+◌, IfSome, IsSome, ◌∙◌, ap, arith}
 use Rattle.std.specs.Io.KnownBytes.{Appends}
-use Rattle.std.proofs.lemmas.List.{append-nil}
+use Rattle.std.proofs.lemmas.List.{append-nil, drop_all}
+use Rattle.std.specs.Io.KnownBytes.{IsAtEnd}
 use Rattle.dcr_base.specs.declared.status.Status.{Status}
 use Rattle.dcr_base.specs.declared.status.Status.TheVariants.{Done, Usage, Refused, ReadFault, WriteFault, NoMemory, Invalid}
 use Rattle.dcr_app.specs.Due.{Due, IsDue, line_due}
-use Rattle.dcr_app.specs.Ends.{Whole, NotAll, Front, Nothing, EndsAs, Ends, IsWhole}
+use Rattle.dcr_app.specs.Ends.{TookAtMost, Whole, NotAll, Nothing, EndsAs, Ends, IsWhole}
 use Rattle.dcr_app.specs.declared.app.End.{End}
 use Rattle.dcr_app.specs.declared.command.Command.{Command}
 
@@ -23,6 +24,21 @@ nothing status before = record { closed = refl; wrote = appends_nothing before }
 pub starved : (P : Due → Type 0) (before : Option (List ℕ)) → Ends P before before (ended NoMemory)
 starved P before = inl (nothing NoMemory before)
 
+-- ---- what was read
+
+-- all of it, which is within the limit
+pub took_all : (limit most : ℕ) (before after : Option (List ℕ)) (bytes : List ℕ) → most ≡ limit + 1 → length bytes ≤ limit → IfSome before (λ left. bytes ≡ left)
+    → (IsSome before → IsSome after) → IsAtEnd after → TookAtMost most before after
+took_all limit most None after bytes is short same told ended = tt
+took_all limit most (Some left) None bytes is short same told over = let wrong = told refl in absurd cc
+took_all limit most (Some left) (Some rest) bytes is short same told over =
+    let fits : length left ≤ limit = subst (λ l. length l ≤ limit) same short in
+    (length left, omega (arith, fits, is), ap Some (over ∙ sym (drop_all (length left) left (omega arith))))
+
+pub took_none : (before : Option (List ℕ)) → TookAtMost 0 before before
+took_none None = tt
+took_none (Some left) = (0, omega arith, refl)
+
 -- ---- what is due has P, and so it has Q
 
 whole_so : (P Q : Due → Type 0) → ((due : Due) → P due → Q due) → (before after : Option (List ℕ)) (end : End) → Whole P before after end → Whole Q before after end
@@ -31,9 +47,6 @@ whole_so P Q so before after end w = record { due = w.due; is = so w.due w.is; s
 not_all_so : (P Q : Due → Type 0) → ((due : Due) → P due → Q due) → (before after : Option (List ℕ)) (end : End) → NotAll P before after end → NotAll Q before after end
 not_all_so P Q so before after end w =
     record { due = w.due; is = so w.due w.is; closed = w.closed; count = w.count; fewer = w.fewer; wrote = w.wrote }
-
-front_so : (P Q : Due → Type 0) → ((due : Due) → P due → Q due) → (before after : Option (List ℕ)) (end : End) → Front P before after end → Front Q before after end
-front_so P Q so before after end w = record { due = w.due; is = so w.due w.is; closed = w.closed; count = w.count; wrote = w.wrote }
 
 as_so : (status : Status) (P Q : Due → Type 0) → ((due : Due) → P due → Q due) → (before after : Option (List ℕ)) (end : End)
     → EndsAs status P before after end → EndsAs status Q before after end
@@ -44,7 +57,7 @@ as_so Invalid P Q so before after end w = whole_so P Q so before after end w
 as_so ReadFault P Q so before after end w = w
 as_so WriteFault P Q so before after end w = not_all_so P Q so before after end w
 as_so NoMemory P Q so before after end (inl w) = inl w
-as_so NoMemory P Q so before after end (inr w) = inr (front_so P Q so before after end w)
+as_so NoMemory P Q so before after end (inr w) = inr (not_all_so P Q so before after end w)
 
 pub ends_so : (P Q : Due → Type 0) → ((due : Due) → P due → Q due) → (before after : Option (List ℕ)) (end : End) → Ends P before after end → Ends Q before after end
 ends_so P Q so before after end w = as_so end.status P Q so before after end w

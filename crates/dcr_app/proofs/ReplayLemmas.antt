@@ -9,6 +9,7 @@ use Rattle.dcr_replay.specs.Laws.{IsReport, ValidIsReport}
 use Rattle.dcr_replay.specs.OneVerdict.{VerdictIsOne}
 use Rattle.dcr_replay.specs.declared.verdict.Verdict.{Verdict}
 use Rattle.dcr_replay.specs.declared.verdict.Verdict.TheVariants as verdict
+use Rattle.dcr_replay.specs.declared.verdict.Wrong.{Wrong}
 use Rattle.dcr_app.specs.Due.{Due, Finds, HasVerdict, IsDueToReport, found_due, refusal_due, verdict_status}
 use Rattle.dcr_app.specs.Ends.{Whole, EndsAs, Ends, IsWhole, Refuses, SaysValid, SaysInvalid, IsAnsweredReport}
 use Rattle.dcr_app.specs.declared.app.End.{End}
@@ -52,17 +53,23 @@ says_valid left before after end law done ends =
     let w = whole_at Done (IsDueToReport left) before after end tt done ends in
     valid_by left before after w.is.found w.due law w.is.finds w.is.owed (sym done ∙ w.status) w.wrote
 
-invalid_by : (left before after : Option (List ℕ)) (found : Option Verdict) (due : Due) → IfSome left (λ bytes. Finds bytes found) → due ≡ found_due found
-    → Invalid ≡ due.status → Appends before after due.text → SaysInvalid left before after
-invalid_by left before after None due finds owed is wrote = let wrong : Invalid ≡ Refused = is ∙ ap (λ (d : Due). d.status) owed in absurd cc
-invalid_by left before after (Some (verdict.Valid count)) due finds owed is wrote = let wrong : Invalid ≡ Done = is ∙ ap (λ (d : Due). d.status) owed in absurd cc
-invalid_by left before after (Some (verdict.Invalid line kind)) due finds owed is wrote =
-    record { line = line; kind = kind; first = firsts left (verdict.Invalid line kind) finds; wrote = subst (λ (d : Due). Appends before after d.text) owed wrote }
+no_reports : (left : Option (List ℕ)) (line : ℕ) (kind : Wrong) → ValidIsReport → VerdictIsOne → IfSome left (λ bytes. Finds bytes (Some (verdict.Invalid line kind)))
+    → IfSome left (λ bytes. (count : ℕ) → IsReport bytes count → ⊥)
+no_reports None line kind law one finds = tt
+no_reports (Some bytes) line kind law one finds = λ count report.
+    let wrong : verdict.Invalid line kind ≡ verdict.Valid count = one bytes (verdict.Invalid line kind) (verdict.Valid count) finds.1 ((law bytes count).1 report) in cc
 
-pub says_invalid : (left before after : Option (List ℕ)) (end : End) → end.status ≡ Invalid → Ends (IsDueToReport left) before after end → SaysInvalid left before after
-says_invalid left before after end is ends =
+invalid_by : (left before after : Option (List ℕ)) (found : Option Verdict) (due : Due) → ValidIsReport → VerdictIsOne → IfSome left (λ bytes. Finds bytes found) → due ≡ found_due found
+    → Invalid ≡ due.status → Appends before after due.text → SaysInvalid left before after
+invalid_by left before after None due law one finds owed is wrote = let wrong : Invalid ≡ Refused = is ∙ ap (λ (d : Due). d.status) owed in absurd cc
+invalid_by left before after (Some (verdict.Valid count)) due law one finds owed is wrote = let wrong : Invalid ≡ Done = is ∙ ap (λ (d : Due). d.status) owed in absurd cc
+invalid_by left before after (Some (verdict.Invalid line kind)) due law one finds owed is wrote =
+    record { line = line; kind = kind; first = firsts left (verdict.Invalid line kind) finds; no_report = no_reports left line kind law one finds; wrote = subst (λ (d : Due). Appends before after d.text) owed wrote }
+
+pub says_invalid : (left before after : Option (List ℕ)) (end : End) → ValidIsReport → VerdictIsOne → end.status ≡ Invalid → Ends (IsDueToReport left) before after end → SaysInvalid left before after
+says_invalid left before after end law one is ends =
     let w = whole_at Invalid (IsDueToReport left) before after end tt is ends in
-    invalid_by left before after w.is.found w.due w.is.finds w.is.owed (sym is ∙ w.status) w.wrote
+    invalid_by left before after w.is.found w.due law one w.is.finds w.is.owed (sym is ∙ w.status) w.wrote
 
 refuses_by : (left before after : Option (List ℕ)) (found : Option Verdict) (due : Due) → IfSome left (λ bytes. Finds bytes found) → due ≡ found_due found
     → Refused ≡ due.status → Appends before after due.text → Refuses (Some Replay) left before after

@@ -107,9 +107,9 @@ pub run_failed : (text : List ℕ) (closed : Closed) (count : ℕ) (before after
     → Ends (IsRunDue text closed) before after (ran WriteFault closed)
 run_failed text closed count before after fewer wrote = record { due = run_due text closed; is = refl; closed = refl; count = count; fewer = fewer; wrote = wrote }
 
-pub run_starved : (text : List ℕ) (closed : Closed) (count : ℕ) (before after : Option (List ℕ)) → Appends before after (take count text)
+pub run_starved : (text : List ℕ) (closed : Closed) (count : ℕ) (before after : Option (List ℕ)) → count < length text → Appends before after (take count text)
     → Ends (IsRunDue text closed) before after (ran NoMemory closed)
-run_starved text closed count before after wrote = inr (record { due = run_due text closed; is = refl; closed = refl; count = count; wrote = wrote })
+run_starved text closed count before after fewer wrote = inr (record { due = run_due text closed; is = refl; closed = refl; count = count; fewer = fewer; wrote = wrote })
 
 -- ---- what the end tells, status by status
 

@@ -1,5 +1,5 @@
 -- How the program ends: what it wrote on each status.
-use Rattle.std.specs.Prelude.{◌≡◌, ◌⊎◌, ℕ, ◌<◌, ◌≤◌, List, [], ◌∷◌, ◌++◌, codes, decimal, length, take, Option, Some, None, Result, Ok, Err, IfSome, ⊤}
+use Rattle.std.specs.Prelude.{◌≡◌, ◌⊎◌, ℕ, ◌<◌, ◌≤◌, List, [], ◌∷◌, ◌++◌, codes, decimal, length, take, drop, Option, Some, None, Result, Ok, Err, IfSome, ⊤}
 use Rattle.std.specs.Io.KnownBytes.{Appends}
 use Rattle.std.specs.List.{All}
 use Rattle.dcr_base.specs.declared.status.Status.{Status}
@@ -23,6 +23,18 @@ use Rattle.dcr_app.specs.declared.app.End.{End}
 use Rattle.dcr_app.specs.declared.command.Command.{Command}
 use Rattle.dcr_app.specs.declared.command.Command.TheVariants.{Run, Replay}
 
+-- ---- what was read
+
+-- of what was left the first bytes were read, at most so many
+abbrev pub TookAtMost : ℕ → Option (List ℕ) → Option (List ℕ) → Type 0
+TookAtMost most before after = IfSome before (λ left. (k : ℕ) × (k ≤ most) × (after ≡ Some (drop k left)))
+
+-- how many bytes a command reads at most: one more than its limit
+abbrev pub most_read : Option Command → ℕ
+most_read None = 0
+most_read (Some Run) = 16777217
+most_read (Some Replay) = 268435457
+
 -- ---- the table
 
 -- what was due was written, all of it
@@ -42,21 +54,13 @@ pub record NotAll (P : Due → Type 0) (before after : Option (List ℕ)) (end :
   pub fewer : count < length due.text
   pub wrote : Appends before after (take count due.text)
 
--- of what was due a front was written
-pub record Front (P : Due → Type 0) (before after : Option (List ℕ)) (end : End) : Type 0 where
-  pub due : Due
-  pub is : P due
-  pub closed : end.closed ≡ due.closed
-  pub count : ℕ
-  pub wrote : Appends before after (take count due.text)
-
 -- nothing was written, and there is no run
 pub record Nothing (before after : Option (List ℕ)) (end : End) : Type 0 where
   pub closed : end.closed ≡ None
   pub wrote : Appends before after []
 
 -- What was written on each status, where what is due has P: all of it; or nothing where the input failed, a front and
--- not all of it where the output failed, and nothing or a front of it where memory ran out.
+-- not all of it where the output failed, and nothing or such a front where memory ran out.
 abbrev pub EndsAs : Status → (Due → Type 0) → Option (List ℕ) → Option (List ℕ) → End → Type 0
 EndsAs Done P before after end = Whole P before after end
 EndsAs Usage P before after end = Whole P before after end
@@ -64,7 +68,7 @@ EndsAs Refused P before after end = Whole P before after end
 EndsAs Invalid P before after end = Whole P before after end
 EndsAs ReadFault P before after end = Nothing before after end
 EndsAs WriteFault P before after end = NotAll P before after end
-EndsAs NoMemory P before after end = Nothing before after end ⊎ Front P before after end
+EndsAs NoMemory P before after end = Nothing before after end ⊎ NotAll P before after end
 
 abbrev pub Ends : (Due → Type 0) → Option (List ℕ) → Option (List ℕ) → End → Type 0
 Ends P before after end = EndsAs end.status P before after end
@@ -127,11 +131,12 @@ pub record SaysValid (left before after : Option (List ℕ)) : Type 0 where
   pub report : IfSome left (λ bytes. IsReport bytes count)
   pub wrote : Appends before after (codes "valid " ++ decimal count ++ codes "\n")
 
--- the line that was written says which line of the input is the first wrong one
+-- the line that was written says which line of the input is the first wrong one; the input is no report of a legal history
 pub record SaysInvalid (left before after : Option (List ℕ)) : Type 0 where
   pub line : ℕ
   pub kind : Wrong
   pub first : IfSome left (λ bytes. IsVerdict bytes (verdict.Invalid line kind))
+  pub no_report : IfSome left (λ bytes. (count : ℕ) → IsReport bytes count → ⊥)
   pub wrote : Appends before after (verdict_line (verdict.Invalid line kind))
 
 -- a text within the limit is found valid or invalid, by its verdict, and a longer one is refused

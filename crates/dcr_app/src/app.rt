@@ -4,7 +4,7 @@ ghost use Rattle.dcr_base.specs.Count.{Rose};
 ghost use Rattle.dcr_json.specs.Case.{case_in};
 ghost use Rattle.dcr_app.specs.Command.{command_in};
 ghost use Rattle.dcr_app.specs.Due.{IsDue};
-ghost use Rattle.dcr_app.specs.Ends.{Ends, Refuses, Reported, IsRunOfInput, IsDoneThroughout, IsAnsweredCase, SaysValid, SaysInvalid, IsAnsweredReport};
+ghost use Rattle.dcr_app.specs.Ends.{Ends, TookAtMost, most_read, Refuses, Reported, IsRunOfInput, IsDoneThroughout, IsAnsweredCase, SaysValid, SaysInvalid, IsAnsweredReport};
 ghost use Rattle.dcr_app.specs.declared.command.Command.TheVariants.{Run, Replay};
 
 use crate::command::{Command, command_of};
@@ -47,6 +47,7 @@ pub fn dcr<R, I: Source, O: Sink>(
     ensures write_counted { result.status ≡ Status.WriteFault → Rose (O.write_faults output.old) (O.write_faults output.new) }
     ensures reads_never_fall { I.read_faults input.old ≤ I.read_faults input.new }
     ensures writes_never_fall { O.write_faults output.old ≤ O.write_faults output.new }
+    ensures asked { TookAtMost (most_read (command_in words.now)) (I.left input.old) (I.left input.new) }
     ensures ended { result.status ≡ Status.Done → IsAtEnd (I.left input.new) }
 
     ensures usage { command_in words.now ≡ None → (result.status ≡ Status.Usage) ⊎ (result.status ≡ Status.WriteFault) }

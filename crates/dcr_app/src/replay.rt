@@ -3,7 +3,7 @@ ghost use Rattle.std.specs.Prelude.{◌≡◌, ◌≢◌, ◌≤◌, length, IfO
 ghost use Rattle.std.specs.Io.KnownBytes.{IsAtEnd};
 ghost use Rattle.dcr_base.specs.Count.{Rose};
 ghost use Rattle.dcr_app.specs.Due.{IsDueToReport, HasVerdict, verdict_line, verdict_status};
-ghost use Rattle.dcr_app.specs.Ends.{Ends};
+ghost use Rattle.dcr_app.specs.Ends.{Ends, TookAtMost};
 
 use crate::End;
 use crate::lines::{numbered, numbered_word};
@@ -20,6 +20,7 @@ const MAX_BYTES: usize = 268_435_456;
 /// Reads a report to its end and tells its verdict.
 pub(crate) fn replay<I: Source, O: Sink>(alloc: Global, input: &mut I, output: &mut O) -> End
     ensures ends { Ends (IsDueToReport (I.left input.old)) (O.taken output.old) (O.taken output.new) result }
+    ensures asked { TookAtMost 268435457 (I.left input.old) (I.left input.new) }
     ensures ended { result.status ≡ Status.Done → IsAtEnd (I.left input.new) }
     ensures read_counted { result.status ≡ Status.ReadFault → Rose (I.read_faults input.old) (I.read_faults input.new) }
     ensures write_counted { result.status ≡ Status.WriteFault → Rose (O.write_faults output.old) (O.write_faults output.new) }

@@ -11,7 +11,7 @@ ghost use Rattle.dcr_json.specs.Built.{case_of, IsCase};
 ghost use Rattle.dcr_json.specs.Case.{case_in};
 ghost use Rattle.dcr_report.specs.Report.{report_text};
 ghost use Rattle.dcr_app.specs.Due.{IsDueToCase, IsOwed};
-ghost use Rattle.dcr_app.specs.Ends.{Ends};
+ghost use Rattle.dcr_app.specs.Ends.{Ends, TookAtMost};
 
 use crate::End;
 use crate::say::{refuse, silent};
@@ -31,6 +31,7 @@ const MAX_BYTES: usize = 16_777_216;
 /// Reads a case to its end, runs it, and writes its report.
 pub(crate) fn run<I: Source, O: Sink>(alloc: Global, input: &mut I, output: &mut O) -> End
     ensures ends { Ends (IsDueToCase (I.left input.old)) (O.taken output.old) (O.taken output.new) result }
+    ensures asked { TookAtMost 16777217 (I.left input.old) (I.left input.new) }
     ensures ended { result.status ≡ Status.Done → IsAtEnd (I.left input.new) }
     ensures read_counted { result.status ≡ Status.ReadFault → Rose (I.read_faults input.old) (I.read_faults input.new) }
     ensures write_counted { result.status ≡ Status.WriteFault → Rose (O.write_faults output.old) (O.write_faults output.new) }
