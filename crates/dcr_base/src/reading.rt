@@ -1,4 +1,4 @@
-ghost use Rattle.std.specs.Prelude.{◌≡◌, ◌<◌, ◌≤◌, ◌+◌, ℕ, length, drop, vec_len, Some, IsSome, IfSome, IfOk, OnOk, OnErr};
+ghost use Rattle.std.specs.Prelude.{◌≡◌, ◌≢◌, ◌<◌, ◌≤◌, ◌+◌, ℕ, length, drop, vec_len, Some, IsSome, IfSome, IfOk, OnOk, OnErr};
 ghost use Rattle.std.specs.Io.KnownBytes.{IsAtEnd};
 ghost use Rattle.dcr_base.specs.Count.{Rose};
 ghost use Rattle.dcr_base.specs.ReadStop.{message_of};
@@ -57,8 +57,8 @@ const CHUNK: usize = 4096;
 /// one more than the limit is seen, and takes memory as bytes come.
 ///
 /// `TooLong` comes where more than `limit` bytes came, `ReadFault` where a read failed, and
-/// `NoMemory` where there was no room for what came. An error leaves the source after the bytes
-/// read so far.
+/// `NoMemory` where there was no room for what came. A read that failed is told by `ReadFault`, and
+/// none is tried again. An error leaves the source after the bytes read so far.
 pub fn read_all<S: Source>(alloc: Global, source: &mut S, limit: usize) -> Result<Vec<u8>, ReadStop>
     ensures within { IfOk result (λ bytes. vec_len bytes ≤ limit) }
     ensures all { IfOk result (λ bytes. IfSome (S.left source.old) (λ left. bytes.items ≡ left)) }
@@ -70,6 +70,8 @@ pub fn read_all<S: Source>(alloc: Global, source: &mut S, limit: usize) -> Resul
         → IfSome (S.left source.old) (λ left. S.left source.new ≡ Some (drop (limit + 1) left)) }
     ensures read_fault { result ≡ Err ReadStop.ReadFault
         → Rose (S.read_faults source.old) (S.read_faults source.new) }
+    ensures no_fault { result ≢ Err ReadStop.ReadFault
+        → S.read_faults source.new ≡ S.read_faults source.old }
     ensures lost { OnErr result (IfSome (S.left source.old)
         (λ left. (k : ℕ) × (k ≤ limit + 1) × (S.left source.new ≡ Some (drop k left)))) }
 

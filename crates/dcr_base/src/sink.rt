@@ -1,4 +1,4 @@
-ghost use Rattle.std.specs.Prelude.{◌<◌, ◌≤◌, ℕ, List, Option, length, IfOk, OnErr};
+ghost use Rattle.std.specs.Prelude.{◌≡◌, ◌<◌, ◌≤◌, ℕ, List, Option, length, IfOk, OnOk, OnErr};
 ghost use Rattle.std.specs.Io.{WritesAtMost};
 ghost use Rattle.std.specs.Io.KnownBytes.{WriteAppends};
 ghost use Rattle.dcr_base.specs.Count.{Rose};
@@ -20,5 +20,6 @@ pub trait Sink {
         ensures appended { WriteAppends (taken self.old) (taken self.new) result bytes.now }
         ensures at_least_one { 0 < length bytes.now → IfOk result (λ n. 1 ≤ n) }
         ensures never_falls { write_faults self.old ≤ write_faults self.new }
+        ensures ok_counts_none { OnOk result (write_faults self.new ≡ write_faults self.old) }
         ensures counted { OnErr result (Rose (write_faults self.old) (write_faults self.new)) };
 }

@@ -1,4 +1,4 @@
-ghost use Rattle.std.specs.Prelude.{◌≡◌, ◌≤◌, ℕ, List, [], Option, Some, IfOk, OnErr};
+ghost use Rattle.std.specs.Prelude.{◌≡◌, ◌≤◌, ℕ, List, [], Option, Some, IfOk, OnOk, OnErr};
 ghost use Rattle.std.specs.Io.{ReadsAtMost};
 ghost use Rattle.std.specs.Io.KnownBytes.{ReadConsumes};
 ghost use Rattle.dcr_base.specs.Count.{Rose};
@@ -20,5 +20,6 @@ pub trait Source {
         ensures moved { ReadConsumes (left self.old) (left self.new) result buf.new }
         ensures no_more { left self.old ≡ Some [] → IfOk result (λ n. n ≡ 0) }
         ensures never_falls { read_faults self.old ≤ read_faults self.new }
+        ensures ok_counts_none { OnOk result (read_faults self.new ≡ read_faults self.old) }
         ensures counted { OnErr result (Rose (read_faults self.old) (read_faults self.new)) };
 }

@@ -1,4 +1,4 @@
-ghost use Rattle.std.specs.Prelude.{◌<◌, ◌≤◌, ◌++◌, Some, codes, length, take, IfErr, OnOk, OnErr};
+ghost use Rattle.std.specs.Prelude.{◌≡◌, ◌<◌, ◌≤◌, ◌++◌, Some, codes, length, take, IfErr, OnOk, OnErr};
 ghost use Rattle.std.specs.Fmt.{decimal};
 ghost use Rattle.std.specs.Io.KnownBytes.{Appends};
 ghost use Rattle.dcr_base.specs.Count.{Rose};
@@ -25,14 +25,15 @@ impl fmt::Display for WriteFault {
 
 impl Error for WriteFault {}
 
-/// Writes all the bytes. It takes no memory. `WriteFault` comes where a write failed; the sink then
-/// has the first `written` bytes and no more.
+/// Writes all the bytes. It takes no memory. `WriteFault` comes exactly where a write failed; the
+/// sink then has the first `written` bytes and no more.
 pub fn write_all<O: Sink>(sink: &mut O, bytes: &[u8]) -> Result<(), WriteFault>
     ensures all { OnOk result (Appends (O.taken sink.old) (O.taken sink.new) bytes.now) }
     ensures front { IfErr result (λ fault.
         Appends (O.taken sink.old) (O.taken sink.new) (take fault.written bytes.now)) }
     ensures not_all { IfErr result (λ fault. fault.written < length bytes.now) }
     ensures counted { OnErr result (Rose (O.write_faults sink.old) (O.write_faults sink.new)) }
+    ensures ok_counts_none { OnOk result (O.write_faults sink.new ≡ O.write_faults sink.old) }
     ensures never_falls { O.write_faults sink.old ≤ O.write_faults sink.new }
 {
     let mut written = 0;

@@ -81,6 +81,7 @@ impl Sink for MemSink {
             result bytes.now }
         ensures at_least_one { 0 < length bytes.now → IfOk result (λ n. 1 ≤ n) }
         ensures never_falls { self.old.calls.faults ≤ self.new.calls.faults }
+        ensures ok_counts_none { OnOk result (self.new.calls.faults ≡ self.old.calls.faults) }
         ensures rose { OnErr result (Rose self.old.calls.faults self.new.calls.faults) }
 
         // The exact answer, but for want of memory.

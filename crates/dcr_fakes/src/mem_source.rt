@@ -1,4 +1,4 @@
-ghost use Rattle.std.specs.Prelude.{◌≡◌, ◌≤◌, ◌++◌, ◌↔◌, [], Some, length, take, drop, IsErr, IfOk, OnErr};
+ghost use Rattle.std.specs.Prelude.{◌≡◌, ◌≤◌, ◌++◌, ◌↔◌, [], Some, length, take, drop, IsErr, IfOk, OnOk, OnErr};
 ghost use Rattle.std.specs.Io.{ReadsAtMost};
 ghost use Rattle.std.specs.Io.KnownBytes.{ReadConsumes};
 ghost use Rattle.dcr_base.specs.Count.{Rose};
@@ -66,6 +66,7 @@ impl Source for MemSource {
         ensures moved { ReadConsumes (Some self.old.left) (Some self.new.left) result buf.new }
         ensures no_more { Some self.old.left ≡ Some [] → IfOk result (λ n. n ≡ 0) }
         ensures never_falls { self.old.calls.faults ≤ self.new.calls.faults }
+        ensures ok_counts_none { OnOk result (self.new.calls.faults ≡ self.old.calls.faults) }
         ensures counted { OnErr result (Rose self.old.calls.faults self.new.calls.faults) }
 
         // The exact answer.

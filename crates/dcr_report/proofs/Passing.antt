@@ -1,5 +1,5 @@
 -- Texts on their way to a sink, one after the other, and stops on the way.
-use Rattle.std.proofs.Common.{◌≡◌, inl, inr, ℕ, ◌+◌, ◌<◌, ◌≤◌, List, [], ◌∷◌, ◌++◌, Option, Some, None, Result, Ok, Err, IfErr, OnErr, length, get_or, take, drop, refl, sym, ap, subst, ◌∙◌, append_assoc, arith}
+use Rattle.std.proofs.Common.{◌≡◌, ℕ, ◌+◌, ◌<◌, List, [], ◌∷◌, ◌++◌, Option, Some, None, Result, Ok, Err, IfErr, OnErr, length, get_or, take, drop, refl, sym, ap, subst, ◌∙◌, append_assoc, arith}
 use Rattle.std.specs.Result.{IsErrAnd}
 use Rattle.std.specs.List.{slice_get}
 use Rattle.std.specs.Io.KnownBytes.{Appends}
@@ -45,23 +45,20 @@ Passes-next {a} {b} {c} {start} {held} {left} {text} {whole} rest before here = 
   joined = regroup before.moved here.moved left held text rest whole start before.joined here.joined;
 }
 
-Rose-after : (e f g : ℕ) → e ≤ f → Rose f g → Rose e g
-Rose-after e f g never (inl more) = inl (omega arith)
-Rose-after e f g never (inr most) = inr most
-
 -- a stop in the next text of the whole
 pub StopsWithin-next : {stop told : ReportStop} {a b c : Option (List ℕ)} {start held text whole : List ℕ} {e f g : ℕ} (rest : List ℕ)
-    → Passes a b start (held ++ (text ++ rest)) whole → e ≤ f → StopsWithin told b c held text f g → stop ≡ told → StopsWithin stop a c start whole e g
-StopsWithin-next {e = e} {f = f} {g = g} rest before never here is = record {
+    → Passes a b start (held ++ (text ++ rest)) whole → f ≡ e → StopsWithin told b c held text f g → stop ≡ told → StopsWithin stop a c start whole e g
+StopsWithin-next {g = g} rest before same here is = record {
   left = here.left ++ rest;
   passed = Passes-next rest before here.passed;
   not_all = let some = here.not_all in omega (arith, length-append here.left rest);
-  counted = λ fault. Rose-after e f g never (here.counted (sym is ∙ fault));
+  counted = λ fault. let To : ℕ → Type 0 = λ faults. Rose faults g in subst To same (here.counted (sym is ∙ fault));
+  uncounted = λ none. here.uncounted (sym is ∙ none) ∙ same;
 }
 
 pub StopsWithin-from : {stop : ReportStop} {a b : Option (List ℕ)} {held grown text : List ℕ} {f g : ℕ}
     → grown ≡ held ++ text → StopsWithin stop a b grown [] f g → StopsWithin stop a b held text f g
-StopsWithin-from e here = record { left = here.left; passed = Passes-from e here.passed; not_all = here.not_all; counted = here.counted }
+StopsWithin-from e here = record { left = here.left; passed = Passes-from e here.passed; not_all = here.not_all; counted = here.counted; uncounted = here.uncounted }
 
 -- memory ran out before the sink was asked
 pub no_memory_stops : (a : Option (List ℕ)) (held text : List ℕ) (f : ℕ) (stop : ReportStop) → 0 < length text → stop ≡ NoMemory → StopsWithin stop a a held text f f
@@ -70,16 +67,18 @@ no_memory_stops a held text f stop some is = record {
   passed = Passes-held a held (held ++ text) text refl;
   not_all = omega (arith, length-append held text, some);
   counted = λ fault. let two : NoMemory ≡ WriteFault = sym is ∙ fault in cc;
+  uncounted = λ none. refl;
 }
 
 -- the sink failed in what was held
-pub fault_stops : (stop : ReportStop) (a b : Option (List ℕ)) (held bytes : List ℕ) (n f g : ℕ) → bytes ≡ held → Appends a b (take n bytes) → n < length bytes → Rose f g
+pub fault_stops : (stop : ReportStop) (a b : Option (List ℕ)) (held bytes : List ℕ) (n f g : ℕ) → stop ≡ WriteFault → bytes ≡ held → Appends a b (take n bytes) → n < length bytes → Rose f g
     → StopsWithin stop a b held [] f g
-fault_stops stop a b held bytes n f g same front less rose = record {
+fault_stops stop a b held bytes n f g is same front less rose = record {
   left = drop n bytes;
   passed = record { moved = take n bytes; took = front; joined = take-append-drop n bytes ∙ same ∙ sym (append-nil held) };
   not_all = omega (arith, length-drop n bytes, less);
   counted = λ fault. rose;
+  uncounted = λ none. let two : WriteFault ≡ NoMemory = sym is ∙ none in cc;
 }
 
 -- the front of it
@@ -114,13 +113,14 @@ pub Passes-left : {a b : Option (List ℕ)} {start left same whole : List ℕ} �
 Passes-left e p = record { moved = p.moved; took = p.took; joined = ap (λ l. p.moved ++ l) e ∙ p.joined }
 
 -- memory ran out on the way
-pub no_memory_after : {a b : Option (List ℕ)} {start whole : List ℕ} (left ending : List ℕ) (f g : ℕ) (stop : ReportStop) → 0 < length ending → stop ≡ NoMemory
+pub no_memory_after : {a b : Option (List ℕ)} {start whole : List ℕ} (left ending : List ℕ) (f g : ℕ) (stop : ReportStop) → 0 < length ending → stop ≡ NoMemory → g ≡ f
     → Passes a b start (left ++ ending) whole → StopsWithin stop a b start whole f g
-no_memory_after left ending f g stop some is p = record {
+no_memory_after left ending f g stop some is same p = record {
   left = left ++ ending;
   passed = p;
   not_all = omega (arith, length-append left ending, some);
   counted = λ fault. let two : NoMemory ≡ WriteFault = sym is ∙ fault in cc;
+  uncounted = λ none. same;
 }
 
 -- the same, as an answer of an index
@@ -128,10 +128,10 @@ pub drop_at_read : {X : Type 0} (xs : List X) (i : ℕ) (x : X) → i < length x
 drop_at_read xs i x within e = drop_more xs i x within ∙ ap (λ y. y ∷ drop (i + 1) xs) (sym e)
 
 -- the sink failed in what is left at the end
-pub fault_at_end : {a b c : Option (List ℕ)} {start held whole : List ℕ} (bytes : List ℕ) (n e f g : ℕ) (stop : ReportStop) → Passes a b start held whole → e ≤ f
-    → bytes ≡ held → Appends b c (take n bytes) → n < length bytes → Rose f g → StopsWithin stop a c start whole e g
-fault_at_end {b = b} {c = c} {held = held} bytes n e f g stop before never same front less rose =
-    StopsWithin-next {text = []} [] (Passes-left (append-nil held) before) never (fault_stops stop b c held bytes n f g same front less rose) refl
+pub fault_at_end : {a b c : Option (List ℕ)} {start held whole : List ℕ} (bytes : List ℕ) (n e f g : ℕ) → Passes a b start held whole → f ≡ e
+    → bytes ≡ held → Appends b c (take n bytes) → n < length bytes → Rose f g → StopsWithin WriteFault a c start whole e g
+fault_at_end {b = b} {c = c} {held = held} bytes n e f g before unmoved same front less rose =
+    StopsWithin-next {text = []} [] (Passes-left (append-nil held) before) unmoved (fault_stops WriteFault b c held bytes n f g refl same front less rose) refl
 
 -- what a stop leaves in the sink, where nothing was held: a front, and not all
 pub part_at_stop : {stop : ReportStop} {a b : Option (List ℕ)} {held text : List ℕ} {f g : ℕ} → held ≡ [] → StopsWithin stop a b held text f g

@@ -44,6 +44,7 @@ pub(crate) fn pass_head<O: Sink>(
         (O.taken sink.old) (O.taken sink.new) held.old.items
         (lines_text (head_lines nested.now cover.now graph.now.names closed.now.opening))
         (O.write_faults sink.old) (O.write_faults sink.new)) }
+    ensures no_fault { OnOk result (O.write_faults sink.new ≡ O.write_faults sink.old) }
     ensures never_falls { O.write_faults sink.old ≤ O.write_faults sink.new }
 {
     put_head(alloc, nested, graph, cover, closed, held)?;
@@ -98,6 +99,7 @@ pub(crate) fn pass_entries<O: Sink>(
         (O.taken sink.old) (O.taken sink.new) held.old.items
         (lines_text (entry_lines cover.now.names graph.now.names 0 history.now.entries))
         (O.write_faults sink.old) (O.write_faults sink.new)) }
+    ensures no_fault { OnOk result (O.write_faults sink.new ≡ O.write_faults sink.old) }
     ensures never_falls { O.write_faults sink.old ≤ O.write_faults sink.new }
 {
     for place in 0..history.len() {
@@ -123,6 +125,7 @@ fn pass_entry<O: Sink>(
         (O.taken sink.old) (O.taken sink.new) held.old.items
         (line (entry_text cover.now.names graph.now.names place entry.now))
         (O.write_faults sink.old) (O.write_faults sink.new)) }
+    ensures no_fault { OnOk result (O.write_faults sink.new ≡ O.write_faults sink.old) }
     ensures never_falls { O.write_faults sink.old ≤ O.write_faults sink.new }
 {
     write_entry(place, entry, graph, cover, held)?;
@@ -149,6 +152,7 @@ pub(crate) fn pass_sites<O: Sink>(
         (O.taken sink.old) (O.taken sink.new) held.old.items
         (lines_text (site_lines graph.now.names sites.now marks.now))
         (O.write_faults sink.old) (O.write_faults sink.new)) }
+    ensures no_fault { OnOk result (O.write_faults sink.new ≡ O.write_faults sink.old) }
     ensures never_falls { O.write_faults sink.old ≤ O.write_faults sink.new }
 {
     for i in 0..sites.len() {
@@ -174,6 +178,7 @@ fn pass_site<O: Sink>(
         (O.taken sink.old) (O.taken sink.new) held.old.items
         (line (site_text graph.now.names site.now mark.now))
         (O.write_faults sink.old) (O.write_faults sink.new)) }
+    ensures no_fault { OnOk result (O.write_faults sink.new ≡ O.write_faults sink.old) }
     ensures never_falls { O.write_faults sink.old ≤ O.write_faults sink.new }
 {
     put_site(site, mark, graph, held)?;
@@ -230,6 +235,7 @@ fn pass_full<O: Sink>(held: &mut Vec<u8>, sink: &mut O) -> Result<(), ReportStop
     ensures stopped { IfErr result (λ stop. StopsWithin stop
         (O.taken sink.old) (O.taken sink.new) held.old.items []
         (O.write_faults sink.old) (O.write_faults sink.new)) }
+    ensures no_fault { OnOk result (O.write_faults sink.new ≡ O.write_faults sink.old) }
     ensures never_falls { O.write_faults sink.old ≤ O.write_faults sink.new }
 {
     if held.len() > FULL {

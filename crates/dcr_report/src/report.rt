@@ -1,4 +1,4 @@
-ghost use Rattle.std.specs.Prelude.{◌≡◌, ℕ, ◌<◌, ◌≤◌, length, take, Some, OnOk, IfErr, OnErr};
+ghost use Rattle.std.specs.Prelude.{◌≡◌, ◌≢◌, ℕ, ◌<◌, ◌≤◌, length, take, Some, OnOk, IfErr, OnErr};
 ghost use Rattle.std.specs.List.{All};
 ghost use Rattle.std.specs.Io.KnownBytes.{Appends};
 ghost use Rattle.dcr_base.specs.Count.{Rose};
@@ -69,7 +69,7 @@ impl From<dcr_base::WriteFault> for ReportStop {
 ///
 /// The graph is the flattening of the nested graph, and the cover is one of its atoms. The history of the
 /// run is legal from its opening marking, and its marks and its verdict are those after the history.
-/// `WriteFault` comes where a write failed; the sink then has less than the report, from its front.
+/// `WriteFault` comes exactly where a write failed; the sink then has less than the report, from its front.
 /// `NoMemory` comes where memory for the texts of the graph and the cover, or for the text held back, could
 /// not be had; the sink then has less than the report too, from its front.
 pub fn write_report<O: Sink>(
@@ -97,6 +97,8 @@ pub fn write_report<O: Sink>(
         (take n (report_text nested.now cover.now closed.now.opening closed.now.history.entries))) }
     ensures counted { result ≡ Err ReportStop.WriteFault
         → Rose (O.write_faults sink.old) (O.write_faults sink.new) }
+    ensures no_fault { result ≢ Err ReportStop.WriteFault
+        → O.write_faults sink.new ≡ O.write_faults sink.old }
     ensures never_falls { O.write_faults sink.old ≤ O.write_faults sink.new }
 {
     write_told(alloc, nested, graph, cover, closed, sink)
@@ -121,6 +123,8 @@ pub(crate) fn write_told<O: Sink>(
         (take n (told_text nested.now cover.now graph.now.names closed.now))) }
     ensures counted { result ≡ Err ReportStop.WriteFault
         → Rose (O.write_faults sink.old) (O.write_faults sink.new) }
+    ensures no_fault { result ≢ Err ReportStop.WriteFault
+        → O.write_faults sink.new ≡ O.write_faults sink.old }
     ensures never_falls { O.write_faults sink.old ≤ O.write_faults sink.new }
 {
     let mut held = Vec::new(alloc);
@@ -148,6 +152,7 @@ fn pass_report<O: Sink>(
         (O.taken sink.old) (O.taken sink.new) held.old.items
         (told_text nested.now cover.now graph.now.names closed.now)
         (O.write_faults sink.old) (O.write_faults sink.new)) }
+    ensures no_fault { OnOk result (O.write_faults sink.new ≡ O.write_faults sink.old) }
     ensures never_falls { O.write_faults sink.old ≤ O.write_faults sink.new }
 {
     let sites = cover.site_names();

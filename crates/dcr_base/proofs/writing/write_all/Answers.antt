@@ -1,4 +1,4 @@
-use Rattle.std.proofs.Common.{arith, rules}
+use Rattle.std.proofs.Common.{◌∙◌, rules}
 use Rattle.std.proofs.lemmas.List.{take_rest}
 use Rattle.dcr_base.proofs.KnownBytes.{Appends-take}
 use Rattle.dcr_base.proofs.writing.write_all.Goals as goal
@@ -11,5 +11,5 @@ loop-written-preserved g c =
     record {
       within = search rules;
       taken = Appends-take _ _ _ bytes _ written c.in-Ok.n (take_rest bytes written) before.taken c.in-Ok.ensures.appended;
-      never_falls = omega arith;
+      no_fault = c.in-Ok.ensures.ok_counts_none ∙ before.no_fault;
     }

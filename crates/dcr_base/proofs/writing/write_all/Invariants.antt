@@ -1,5 +1,5 @@
 -- The sink has taken the first `written` bytes.
-use Rattle.std.proofs.Common.{length, ◌-◌, ◌≤◌, take}
+use Rattle.std.proofs.Common.{◌≡◌, length, ◌-◌, ◌≤◌, take}
 use Rattle.std.specs.Io.KnownBytes.{Appends}
 use Rattle.dcr_base.proofs.writing.write_all.Given as goal
 
@@ -7,7 +7,7 @@ abbrev pub invariant-loop-written : goal.invariant-loop-written
 invariant-loop-written g l = record {
   within : l.written ≤ length l.bytes;
   taken : Appends (g.O.Sink.taken l.initial.sink) (g.O.Sink.taken l.sink) (take l.written l.bytes);
-  never_falls : g.O.Sink.write_faults l.initial.sink ≤ g.O.Sink.write_faults l.sink;
+  no_fault : g.O.Sink.write_faults l.sink ≡ g.O.Sink.write_faults l.initial.sink;
 }
 
 abbrev pub decreases-loop-written : goal.decreases-loop-written

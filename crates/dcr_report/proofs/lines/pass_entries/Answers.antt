@@ -22,7 +22,7 @@ loop-place-preserved g c =
     record {
       passed = Passes-next (lines_text (entry_lines sites atoms (place + 1) (drop (place + 1) entries)))
           (Passes-line c.loop-place.held.items lines c.loop-place.invariant.passed) c.in_ok-pass_entry.ensures.passed;
-      never_falls = omega arith;
+      no_fault = c.in_ok-pass_entry.ensures.no_fault ∙ c.loop-place.invariant.no_fault;
     }
 
 pub returns-in_err-pass_entry-clause-stopped : goal.returns-in_err-pass_entry-clause-stopped
@@ -36,4 +36,4 @@ returns-in_err-pass_entry-clause-stopped g c =
     IfErr-from c.from_residual.result c.from_residual.ensures.1 (λ stop is.
     StopsWithin-next (lines_text (entry_lines sites atoms (place + 1) (drop (place + 1) entries)))
     (Passes-line c.loop-place.held.items lines c.loop-place.invariant.passed)
-    c.loop-place.invariant.never_falls c.in_err-pass_entry.ensures.stopped is)
+    c.loop-place.invariant.no_fault c.in_err-pass_entry.ensures.stopped is)

@@ -1,5 +1,5 @@
 -- What the sink took, what is held and the lines to come are what was held and all the lines.
-use Rattle.std.proofs.Common.{◌++◌, ◌≤◌, drop}
+use Rattle.std.proofs.Common.{◌≡◌, ◌++◌, drop}
 use Rattle.dcr_report.specs.Report.{lines_text, entry_lines}
 use Rattle.dcr_report.specs.Passed.{Passes}
 use Rattle.dcr_report.proofs.lines.pass_entries.Given as goal
@@ -9,5 +9,5 @@ invariant-loop-place g l = record {
   passed : Passes (g.O.Sink.taken l.initial.sink) (g.O.Sink.taken l.sink) l.initial.held.items
       (l.held.items ++ lines_text (entry_lines l.cover.names l.graph.names l.place (drop l.place l.history.entries)))
       (lines_text (entry_lines l.cover.names l.graph.names 0 l.history.entries));
-  never_falls : g.O.Sink.write_faults l.initial.sink ≤ g.O.Sink.write_faults l.sink;
+  no_fault : g.O.Sink.write_faults l.sink ≡ g.O.Sink.write_faults l.initial.sink;
 }

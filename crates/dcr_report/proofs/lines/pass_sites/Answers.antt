@@ -24,7 +24,7 @@ loop-i-preserved g c =
     record {
       passed = Passes-next (lines_text (site_lines atoms (drop (i + 1) sites) (drop (i + 1) marks)))
           (Passes-line c.loop-i.held.items lines c.loop-i.invariant.passed) c.in_ok-pass_site.ensures.passed;
-      never_falls = omega arith;
+      no_fault = c.in_ok-pass_site.ensures.no_fault ∙ c.loop-i.invariant.no_fault;
     }
 
 pub returns-in_err-pass_site-clause-stopped : goal.returns-in_err-pass_site-clause-stopped
@@ -40,4 +40,4 @@ returns-in_err-pass_site-clause-stopped g c =
     IfErr-from c.from_residual.result c.from_residual.ensures.1 (λ stop is.
     StopsWithin-next (lines_text (site_lines atoms (drop (i + 1) sites) (drop (i + 1) marks)))
     (Passes-line c.loop-i.held.items lines c.loop-i.invariant.passed)
-    c.loop-i.invariant.never_falls c.in_err-pass_site.ensures.stopped is)
+    c.loop-i.invariant.no_fault c.in_err-pass_site.ensures.stopped is)

@@ -1,5 +1,5 @@
 -- What the sink took, what is held and the lines to come are what was held and all the lines.
-use Rattle.std.proofs.Common.{◌++◌, ◌≤◌, drop}
+use Rattle.std.proofs.Common.{◌≡◌, ◌++◌, drop}
 use Rattle.dcr_report.specs.Report.{lines_text, site_lines}
 use Rattle.dcr_report.specs.Passed.{Passes}
 use Rattle.dcr_report.proofs.lines.pass_sites.Given as goal
@@ -9,5 +9,5 @@ invariant-loop-i g l = record {
   passed : Passes (g.O.Sink.taken l.initial.sink) (g.O.Sink.taken l.sink) l.initial.held.items
       (l.held.items ++ lines_text (site_lines l.graph.names (drop l.i l.sites) (drop l.i l.marks)))
       (lines_text (site_lines l.graph.names l.sites l.marks));
-  never_falls : g.O.Sink.write_faults l.initial.sink ≤ g.O.Sink.write_faults l.sink;
+  no_fault : g.O.Sink.write_faults l.sink ≡ g.O.Sink.write_faults l.initial.sink;
 }

@@ -27,7 +27,7 @@ returns-in_err-pass_head-clause-stopped g c =
     let start = Passes-held (g.O.Sink.taken c.args.sink.now) c.args.held.now.items (c.args.held.now.items ++ (lines_text (head_lines nest cover atoms closed.opening) ++ rest))
     (told_text nest cover atoms closed) (ap (λ l. c.args.held.now.items ++ l) (sym (told_parts nest cover atoms sites closed c.site_names-sites.ensures.names))) in
     IfErr-from c.from_residual.result c.from_residual.ensures.1 (λ stop is.
-    StopsWithin-next rest start (omega arith) c.in_err-pass_head.ensures.stopped is)
+    StopsWithin-next rest start refl c.in_err-pass_head.ensures.stopped is)
 
 pub returns-in_err-pass_entries-clause-stopped : goal.returns-in_err-pass_entries-clause-stopped
 returns-in_err-pass_entries-clause-stopped g c =
@@ -44,7 +44,7 @@ returns-in_err-pass_entries-clause-stopped g c =
     (told_text nest cover atoms closed) (ap (λ l. c.args.held.now.items ++ l) (sym (told_parts nest cover atoms sites closed c.site_names-sites.ensures.names))) in
     let head = Passes-next rest start c.in_ok-pass_head.ensures.passed in
     IfErr-from c.from_residual-in_err-pass_entries.result c.from_residual-in_err-pass_entries.ensures.1 (λ stop is.
-    StopsWithin-next last head c.in_ok-pass_head.ensures.never_falls c.in_err-pass_entries.ensures.stopped is)
+    StopsWithin-next last head c.in_ok-pass_head.ensures.no_fault c.in_err-pass_entries.ensures.stopped is)
 
 pub returns-in_err-pass_sites-clause-stopped : goal.returns-in_err-pass_sites-clause-stopped
 returns-in_err-pass_sites-clause-stopped g c =
@@ -62,7 +62,7 @@ returns-in_err-pass_sites-clause-stopped g c =
     let head = Passes-next rest start c.in_ok-pass_head.ensures.passed in
     let middle = Passes-next last head c.in_ok-pass_entries.ensures.passed in
     IfErr-from c.from_residual-in_err-pass_sites.result c.from_residual-in_err-pass_sites.ensures.1 (λ stop is.
-    StopsWithin-next ending middle (omega arith) c.in_err-pass_sites.ensures.stopped is)
+    StopsWithin-next ending middle (c.in_ok-pass_entries.ensures.no_fault ∙ c.in_ok-pass_head.ensures.no_fault) c.in_err-pass_sites.ensures.stopped is)
 
 pub returns-in_err-put_end-clause-stopped : goal.returns-in_err-put_end-clause-stopped
 returns-in_err-put_end-clause-stopped g c =
@@ -81,7 +81,8 @@ returns-in_err-put_end-clause-stopped g c =
     let middle = Passes-next last head c.in_ok-pass_entries.ensures.passed in
     let marked = Passes-next ending middle c.in_ok-pass_sites.ensures.passed in
     IfErr-from c.from_residual-in_err-put_end.result c.from_residual-in_err-put_end.ensures.1 (λ stop is.
-    no_memory_after c.pass_sites.new.held.items ending _ _ stop (lines_some (end_lines atoms closed.waits (length entries)) (omega arith)) is marked)
+    no_memory_after c.pass_sites.new.held.items ending _ _ stop (lines_some (end_lines atoms closed.waits (length entries)) (omega arith)) is
+    (c.in_ok-pass_sites.ensures.no_fault ∙ (c.in_ok-pass_entries.ensures.no_fault ∙ c.in_ok-pass_head.ensures.no_fault)) marked)
 
 pub returns-clause-passed : goal.returns-clause-passed
 returns-clause-passed g c =

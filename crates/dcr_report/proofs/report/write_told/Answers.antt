@@ -1,4 +1,3 @@
-use Rattle.dcr_report.specs.declared.report.ReportStop.TheVariants.{WriteFault}
 use Rattle.dcr_report.proofs.Passing.{OnErr-of, part_at_stop, fault_at_end, all_at_end}
 use Rattle.dcr_report.proofs.report.write_told.Goals as goal
 
@@ -9,7 +8,7 @@ pub returns-in_err-write_all-clause-not_all : goal.returns-in_err-write_all-clau
 returns-in_err-write_all-clause-not_all g c =
     let fault = c.in_err-write_all.ensures in
     OnErr-of c.from_residual-in_err-write_all.result _ (part_at_stop c.new-held.ensures.items
-    (fault_at_end _ _ _ _ _ WriteFault c.in_ok-pass_report.ensures.passed c.in_ok-pass_report.ensures.never_falls
+    (fault_at_end _ _ _ _ _ c.in_ok-pass_report.ensures.passed c.in_ok-pass_report.ensures.no_fault
     c.deref.ensures.value fault.front fault.not_all fault.counted))
 
 pub returns-clause-all : goal.returns-clause-all
