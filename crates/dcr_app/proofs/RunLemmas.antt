@@ -1,9 +1,11 @@
 -- What the end of a run tells.
-use Rattle.std.proofs.Common.{◌≡◌, ◌≢◌, ◌⊎◌, ℕ, ◌<◌, List, [], ◌∷◌, length, Option, Some, None, Result, Ok, Err, IfSome, inl, inr, refl, sym, ap, subst, ◌∙◌, take, cond}
+use Rattle.std.proofs.Common.{◌≡◌, ◌≢◌, ◌⊎◌, ℕ, ◌<◌, ◌≤◌, arith, List, [], ◌∷◌, length, Option, Some, None, Result, Ok, Err, IfSome, inl, inr, refl, sym, ap, subst, ◌∙◌, take, cond}
 use Rattle.std.specs.List.{All}
 use Rattle.std.specs.Io.KnownBytes.{Appends}
 use Rattle.std.proofs.lemmas.Bool.{lt-leb}
+use Rattle.std.proofs.lemmas.List.Elements.{All-weaker}
 use Rattle.dcr_set.specs.EventSet.{Set}
+use Rattle.dcr_graph.specs.Projection.{HasRoom}
 use Rattle.dcr_graph.specs.Rules.{Rules}
 use Rattle.dcr_graph.specs.declared.marking.Marking.{Marking}
 use Rattle.dcr_base.specs.declared.status.Status.{Status}
@@ -15,13 +17,14 @@ use Rattle.dcr_journal.specs.declared.call.Outcome.TheVariants as outcome
 use Rattle.dcr_journal.specs.declared.closed.Closed.{Closed}
 use Rattle.dcr_laws.specs.Laws.{IsRun as IsRunFrom, Spell, calls_for}
 use Rattle.dcr_laws.proofs.ToldLemmas.{told_has_each_call_lem, told_has_no_other_session, a_run_is_done_lem}
+use Rattle.dcr_replay.specs.Laws.{IsReport}
 use Rattle.dcr_run.specs.RunOf.{IsRunOf}
 use Rattle.dcr_shape.specs.Stages.{◌>>=◌}
 use Rattle.dcr_json.specs.Case.{case_in}
 use Rattle.dcr_json.specs.Judged.{Spelled}
 use Rattle.dcr_json.specs.declared.case.CaseStop.{CaseStop}
 use Rattle.dcr_json.specs.declared.case.CaseStop.TheVariants as stop
-use Rattle.dcr_app.specs.Due.{Due, IsRunOfWhole, IsOwed, IsDueToCase, rules_in, refusal_due}
+use Rattle.dcr_app.specs.Due.{Due, IsAcceptedCase, IsRunOfWhole, report_of, IsOwed, IsDueToCase, rules_in, refusal_due}
 use Rattle.dcr_app.specs.Ends.{Whole, EndsAs, Ends, Nothing, Reported, Refuses, IsRunOfInput, IsDoneThroughout, IsAnsweredCase}
 use Rattle.dcr_app.specs.declared.app.End.{End}
 use Rattle.dcr_app.specs.declared.command.Command.TheVariants.{Run}
@@ -36,16 +39,40 @@ run_by G H C M sessions closed same run = let P : Rules → Type 0 = λ R. IsRun
 pub legal_by : (G H : Rules) (C : List Set) (M : Marking) (J : List Entry) → G ≡ H → IsLegal G C M J → IsLegal H C M J
 legal_by G H C M J same legal = let P : Rules → Type 0 = λ R. IsLegal R C M J in subst P same legal
 
-pub run_of_whole : (case : Spelled) (closed : Closed) → IsRunOf (rules_in case) case.cover.owned case.opening case.sessions closed
-    → IsLegal (rules_in case) case.cover.owned case.opening closed.history.entries → IsRunOfWhole case closed
-run_of_whole case closed run legal =
+pub run_of_whole : (case : Spelled) (closed : Closed) → IsAcceptedCase case → IsRunOf (rules_in case) case.cover.owned case.opening case.sessions closed
+    → IsLegal (rules_in case) case.cover.owned case.opening closed.history.entries → length closed.history.entries ≤ 200000 → IsRunOfWhole case closed
+run_of_whole case closed accepted run legal most =
     let G = rules_in case in let C = case.cover.owned in let M = case.opening in
     let P : List Entry → Type 0 = λ J. All (λ (entry : Entry). entry.session < length case.sessions) J in
     record {
+      accepted = accepted;
       told = run;
       legal = legal;
       calls = λ k. ap (calls_of k) run.history ∙ told_has_each_call_lem G C M case.sessions k;
       sessions = subst P (sym run.history) (told_has_no_other_session G C M case.sessions);
+      most_entries = most;
+    }
+
+-- the report of a run is the report of a legal history
+report_of_run : (case : Spelled) (closed : Closed) → IsRunOfWhole case closed → IsReport (report_of case closed) (length closed.history.entries)
+report_of_run case closed run =
+    let G = rules_in case in let C = case.cover.owned in let J = closed.history.entries in
+    let Room : Marking → Type 0 = λ M. HasRoom G.atoms M in let Legal : Marking → Type 0 = λ M. IsLegal G C M J in
+    let most = run.accepted.most_sessions in
+    record {
+      nest = case.nested;
+      cover = case.cover;
+      opening = closed.opening;
+      history = J;
+      accepted_graph = run.accepted.graph;
+      accepted_cover = run.accepted.cover;
+      room = subst Room (sym run.told.opening) run.accepted.opening;
+      legal = subst Legal (sym run.told.opening) run.legal;
+      most_entries = run.most_entries;
+      sessions = All-weaker (λ (entry : Entry). entry.session < length case.sessions) (λ (entry : Entry). entry.session < 1024)
+          (λ entry below. omega (arith, below, most)) J run.sessions;
+      text = refl;
+      counted = refl;
     }
 
 -- ---- what is due to the bytes that were read
@@ -121,6 +148,7 @@ reported_by left before after end (Ok case) due spelled owed done closed wrote =
   closed = owed.0;
   there = closed ∙ ap (λ (d : Due). d.closed) owed.2;
   run = owed.1;
+  report = report_of_run case owed.0 owed.1;
   wrote = subst (λ (d : Due). Appends before after d.text) owed.2 wrote;
 }
 reported_by left before after end (Err why) due spelled owed done closed wrote =

@@ -1,6 +1,7 @@
 -- What is due to a command and its input: the status, the text that is to be written, and the run that it tells of.
 use Rattle.std.specs.Prelude.{◌≡◌, ℕ, ◌<◌, ◌≤◌, List, [], ◌++◌, codes, decimal, length, slice_index_or, Option, Some, None, Result, Ok, Err, IfSome}
 use Rattle.std.specs.List.{All}
+use Rattle.dcr_graph.specs.Projection.{HasRoom}
 use Rattle.dcr_graph.specs.Rules.{Rules}
 use Rattle.dcr_nest.specs.FlatRelation.{flat_relation}
 use Rattle.dcr_base.specs.declared.status.Status.{Status}
@@ -13,6 +14,7 @@ use Rattle.dcr_json.specs.Case.{case_in}
 use Rattle.dcr_json.specs.Judged.{Spelled}
 use Rattle.dcr_json.specs.declared.case.CaseStop.{CaseStop}
 use Rattle.dcr_json.specs.declared.case.CaseStop.TheVariants.{TooLong}
+use Rattle.dcr_reading.specs.Accepted.{IsAcceptedGraph, IsAcceptedCover}
 use Rattle.dcr_report.specs.Report.{report_text}
 use Rattle.dcr_replay.specs.FirstWrong.{IsVerdict}
 use Rattle.dcr_replay.specs.Words.{word_of}
@@ -45,14 +47,24 @@ refusal_due why = line_due status.Refused (refusal_line why)
 abbrev pub rules_in : Spelled → Rules
 rules_in case = flat_relation case.nested
 
+-- A case that no refusal of a case file refuses: its nested graph and its cover are accepted, and the opening marking
+-- is one of its atoms.
+pub record IsAcceptedCase (case : Spelled) : Type 0 where
+  pub graph : IsAcceptedGraph case.nested.version case.nested
+  pub cover : IsAcceptedCover case.nested case.cover
+  pub opening : HasRoom (rules_in case).atoms case.opening
+  pub most_sessions : length case.sessions ≤ 1024
+
 -- The run of a case as one list of entries: every call of its sessions, one session after the other, each with the
 -- graph's answer at its place, from the case's opening marking; every site's marks and the verdict are those after it.
 -- So it is a run of the whole graph, with every session's calls once and in order, and no other.
 pub record IsRunOfWhole (case : Spelled) (closed : Closed) : Type 0 where
+  pub accepted : IsAcceptedCase case
   pub told : IsRunOf (rules_in case) case.cover.owned case.opening case.sessions closed
   pub legal : IsLegal (rules_in case) case.cover.owned case.opening closed.history.entries
   pub calls : (k : ℕ) → calls_of k closed.history.entries ≡ slice_index_or case.sessions k []
   pub sessions : All (λ (entry : Entry). entry.session < length case.sessions) closed.history.entries
+  pub most_entries : length closed.history.entries ≤ 200000
 
 -- the report of a run of a case
 abbrev pub report_of : Spelled → Closed → List ℕ

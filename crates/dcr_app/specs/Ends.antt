@@ -94,13 +94,15 @@ Refuses (Some Replay) left before after =
 
 -- ---- `run`
 
--- The report that was written is that of the run of the case that the input spells.
+-- The report that was written is that of the run of the case that the input spells. It is a report of a legal history
+-- of an accepted graph and cover, so that `replay` finds it valid.
 pub record Reported (left before after : Option (List ℕ)) (end : End) : Type 0 where
   pub case : Spelled
   pub spelled : IfSome left (λ bytes. case_in bytes ≡ Ok case)
   pub closed : Closed
   pub there : end.closed ≡ Some closed
   pub run : IsRunOfWhole case closed
+  pub report : IsReport (report_of case closed) (length closed.history.entries)
   pub wrote : Appends before after (report_of case closed)
 
 -- a run that is told, whatever the status, is that of the case that the input spells

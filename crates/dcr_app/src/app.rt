@@ -1,4 +1,4 @@
-ghost use Rattle.std.specs.Prelude.{◌≡◌, ◌⊎◌, ◌≤◌, Some, None, IfSome};
+ghost use Rattle.std.specs.Prelude.{◌≡◌, ◌≢◌, ◌⊎◌, ◌≤◌, Some, None, IfSome};
 ghost use Rattle.std.specs.Io.KnownBytes.{IsAtEnd};
 ghost use Rattle.dcr_base.specs.Count.{Rose};
 ghost use Rattle.dcr_json.specs.Case.{case_in};
@@ -32,9 +32,9 @@ pub struct End {
 /// more than 268,435,456 bytes, is refused by one line that tells why.
 ///
 /// `Done` comes where the report or `valid` was written, `Invalid` where `invalid` was, `Usage` and `Refused`
-/// where their lines were. `ReadFault` comes only where a read failed, and then nothing was written.
-/// `WriteFault` comes only where a write failed, and then a front of what was to be written was, and not all of
-/// it. `NoMemory` may come in the place of any other answer but that of `usage`, with a front of it.
+/// where their lines were. `ReadFault` comes exactly where a read failed, and then nothing was written.
+/// `WriteFault` comes exactly where a write failed, and then a front of what was to be written was, and not all
+/// of it. `NoMemory` may come in the place of any other answer but that of `usage`, with a front of it.
 pub fn dcr<R, I: Source, O: Sink>(
     _rt: &R,
     alloc: Global,
@@ -45,6 +45,8 @@ pub fn dcr<R, I: Source, O: Sink>(
     ensures answers { Ends (IsDue (command_in words.now) (I.left input.old)) (O.taken output.old) (O.taken output.new) result }
     ensures read_counted { result.status ≡ Status.ReadFault → Rose (I.read_faults input.old) (I.read_faults input.new) }
     ensures write_counted { result.status ≡ Status.WriteFault → Rose (O.write_faults output.old) (O.write_faults output.new) }
+    ensures no_read_fault { result.status ≢ Status.ReadFault → I.read_faults input.new ≡ I.read_faults input.old }
+    ensures no_write_fault { result.status ≢ Status.WriteFault → O.write_faults output.new ≡ O.write_faults output.old }
     ensures reads_never_fall { I.read_faults input.old ≤ I.read_faults input.new }
     ensures writes_never_fall { O.write_faults output.old ≤ O.write_faults output.new }
     ensures asked { TookAtMost (most_read (command_in words.now)) (I.left input.old) (I.left input.new) }

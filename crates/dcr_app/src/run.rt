@@ -35,6 +35,8 @@ pub(crate) fn run<I: Source, O: Sink>(alloc: Global, input: &mut I, output: &mut
     ensures ended { result.status ≡ Status.Done → IsAtEnd (I.left input.new) }
     ensures read_counted { result.status ≡ Status.ReadFault → Rose (I.read_faults input.old) (I.read_faults input.new) }
     ensures write_counted { result.status ≡ Status.WriteFault → Rose (O.write_faults output.old) (O.write_faults output.new) }
+    ensures no_read_fault { result.status ≢ Status.ReadFault → I.read_faults input.new ≡ I.read_faults input.old }
+    ensures no_write_fault { result.status ≢ Status.WriteFault → O.write_faults output.new ≡ O.write_faults output.old }
     ensures reads_never_fall { I.read_faults input.old ≤ I.read_faults input.new }
     ensures writes_never_fall { O.write_faults output.old ≤ O.write_faults output.new }
 {
@@ -51,6 +53,7 @@ fn run_bytes<O: Sink>(alloc: Global, bytes: &[u8], output: &mut O) -> End
     ensures ends { Ends (IsOwed (case_in bytes.now)) (O.taken output.old) (O.taken output.new) result }
     ensures no_read_fault { result.status ≢ Status.ReadFault }
     ensures counted { result.status ≡ Status.WriteFault → Rose (O.write_faults output.old) (O.write_faults output.new) }
+    ensures no_write_fault { result.status ≢ Status.WriteFault → O.write_faults output.new ≡ O.write_faults output.old }
     ensures never_falls { O.write_faults output.old ≤ O.write_faults output.new }
 {
     match read_case(alloc, bytes) {
@@ -65,6 +68,7 @@ fn run_and_report<O: Sink>(alloc: Global, case: Case, output: &mut O) -> End
     ensures ends { Ends (IsOwed (Ok (case_of case))) (O.taken output.old) (O.taken output.new) result }
     ensures no_read_fault { result.status ≢ Status.ReadFault }
     ensures counted { result.status ≡ Status.WriteFault → Rose (O.write_faults output.old) (O.write_faults output.new) }
+    ensures no_write_fault { result.status ≢ Status.WriteFault → O.write_faults output.new ≡ O.write_faults output.old }
     ensures never_falls { O.write_faults output.old ≤ O.write_faults output.new }
 {
     let Case {
@@ -105,6 +109,7 @@ fn report<O: Sink>(
         (O.taken output.old) (O.taken output.new) result }
     ensures no_read_fault { result.status ≢ Status.ReadFault }
     ensures counted { result.status ≡ Status.WriteFault → Rose (O.write_faults output.old) (O.write_faults output.new) }
+    ensures no_write_fault { result.status ≢ Status.WriteFault → O.write_faults output.new ≡ O.write_faults output.old }
     ensures never_falls { O.write_faults output.old ≤ O.write_faults output.new }
 {
     let status = match write_report(alloc, nested, graph, cover, &closed, output) {

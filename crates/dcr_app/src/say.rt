@@ -26,6 +26,7 @@ pub(crate) fn say<O: Sink>(output: &mut O, line: &[u8], status: Status) -> End
     ensures ends { Ends (λ due. due ≡ line_due status line.now) (O.taken output.old) (O.taken output.new) result }
     ensures status { (result.status ≡ status) ⊎ (result.status ≡ Status.WriteFault) }
     ensures counted { result.status ≡ Status.WriteFault → Rose (O.write_faults output.old) (O.write_faults output.new) }
+    ensures no_fault { result.status ≢ Status.WriteFault → O.write_faults output.new ≡ O.write_faults output.old }
     ensures never_falls { O.write_faults output.old ≤ O.write_faults output.new }
 {
     match write_all(output, line) {
@@ -42,6 +43,7 @@ pub(crate) fn refuse<O: Sink>(alloc: Global, output: &mut O, stop: CaseStop) -> 
     ensures refused { result.status ≢ Status.Done }
     ensures read { result.status ≢ Status.ReadFault }
     ensures counted { result.status ≡ Status.WriteFault → Rose (O.write_faults output.old) (O.write_faults output.new) }
+    ensures no_fault { result.status ≢ Status.WriteFault → O.write_faults output.new ≡ O.write_faults output.old }
     ensures never_falls { O.write_faults output.old ≤ O.write_faults output.new }
 {
     if let CaseStop::NoMemory = stop {

@@ -4,6 +4,7 @@ use Rattle.std.specs.List.{All}
 use Rattle.dcr_graph.specs.Projection.{HasRoom}
 use Rattle.dcr_nest.specs.FlatRelation.{IsFlattening}
 use Rattle.dcr_journal.specs.Run.{IsInRange}
+use Rattle.dcr_reading.specs.Accepted.{IsAcceptedGraph, IsAcceptedCover}
 use Rattle.dcr_json.specs.Judged.{Spelled}
 use Rattle.dcr_json.specs.declared.case.Case.{Case}
 
@@ -11,8 +12,10 @@ use Rattle.dcr_json.specs.declared.case.Case.{Case}
 abbrev pub case_of : Case → Spelled
 case_of case = record { nested = case.nested; cover = case.cover; opening = case.opening; sessions = case.sessions }
 
--- that the parts of a case fit together
+-- that no refusal of a case file refuses the parts of a case, and that they fit together
 pub record IsCase (case : Case) : Type 0 where
+  pub accepted_graph : IsAcceptedGraph case.nested.version case.nested
+  pub accepted_cover : IsAcceptedCover case.nested case.cover
   pub flat : IsFlattening case.nested case.graph
   pub rooms : All (λ set. length set ≡ length case.graph.names) case.cover.owned
   pub opening : HasRoom (length case.graph.names) case.opening

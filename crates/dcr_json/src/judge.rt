@@ -1,6 +1,7 @@
-ghost use Rattle.std.specs.Prelude.{◌≡◌, ◌≢◌, ◌<◌, length, IfOk, Ok, ℕ};
+ghost use Rattle.std.specs.Prelude.{◌≡◌, ◌≢◌, ◌<◌, length, IfOk, OnOk, None, Ok, ℕ};
+ghost use Rattle.dcr_graph.specs.Pairs.{first_clash};
 ghost use Rattle.dcr_limit.specs.Limits.{limits_in};
-ghost use Rattle.dcr_nest.specs.FlatRelation.{IsFlattening};
+ghost use Rattle.dcr_nest.specs.FlatRelation.{IsFlattening, flat_relation};
 ghost use Rattle.dcr_nodes.specs.Nodes.{nodes_in};
 ghost use Rattle.dcr_reading.specs.Accepted.{atom_names};
 ghost use Rattle.dcr_json.specs.Built.{case_of, IsCase};
@@ -13,6 +14,7 @@ use crate::{Case, CaseStop, SessionList};
 use dcr_graph::{Graph, GraphStop, Name};
 use dcr_nest::Nested;
 use dcr_nodes::Nodes;
+use dcr_reading::{see_cover, see_graph};
 use dcr_set::EventId;
 use dcr_shape::Written;
 use std::alloc::Global;
@@ -30,6 +32,8 @@ pub(crate) fn judge(alloc: Global, written: &Written<'_>, nodes: Nodes) -> Resul
     let graph = read_graph(alloc, &nested)?;
     let cover = read_cover(alloc, &nested, &graph, &written.sites)?;
     let sessions = read_sessions(alloc, &written.sessions, &graph, &cover)?;
+    see_graph(&nested);
+    see_cover(&nested, &graph, &cover);
     Ok(Case {
         nested,
         graph,
@@ -44,6 +48,7 @@ pub(crate) fn judge(alloc: Global, written: &Written<'_>, nodes: Nodes) -> Resul
 fn read_graph(alloc: Global, nested: &Nested) -> Result<Graph, CaseStop>
     ensures says { Says (λ _. tt) result (unclashed nested.now) }
     ensures flat { IfOk result (λ graph. IsFlattening nested.now graph) }
+    ensures unclashed { OnOk result (first_clash (flat_relation nested.now) ≡ None) }
 {
     match nested.flatten(alloc) {
         Ok(graph) => Ok(graph),

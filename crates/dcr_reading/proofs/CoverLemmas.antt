@@ -228,20 +228,3 @@ module _ (N : Nest) (nested : IsNested N) (C : Owners) (ok : IsAcceptedCover N C
   -- an accepted cover is found
   pub cover_is_found : told_found N (written_in (cover_file (cover_value (atom_names N) C))) ≡ Some C
   cover_is_found = ap (told_found N) (sites_found (atom_names N) C ok.is_cover.some_site ok.is_cover.most_sites) ∙ ap cover_found cover_told_is
-
--- ---- what is found has names that are names
-
-pub told_names : (N : Nest) (r : Result FileWritten ReadStop) (C : Owners) → Some C ≡ told_found N r → AreAllNames C.names
-told_names N (Err stop) C found = absurd cc
-told_names N (Ok w) C found = at (cover_told N (map texts_of w.sites)) refl found
-  where
-    at : (r : Result Owners CoverStop) → cover_told N (map texts_of w.sites) ≡ r → Some C ≡ cover_found r → AreAllNames C.names
-    at (Err stop) is told = absurd cc
-    at (Ok D) is told = λ k d l.
-        let site_texts = map texts_of w.sites in
-        let same : D ≡ C = cc in
-        let r = cover_from_told N site_texts C (is ∙ ap Ok same) in
-        let many : length C.names ≡ length site_texts = ap (λ (ns : List (List ℕ)). length ns) r.names ∙ length-map site_texts (λ (s : Written). s.0) in
-        let within : k < length site_texts = omega arith in
-        ap (λ (ns : List (List ℕ)). is_name (get_or ns k d)) r.names ∙ ap is_name (get_or-map (λ (s : Written). s.0) site_texts k ([], []) d within)
-        ∙ (r.sites_good k within).name.name

@@ -9,8 +9,8 @@ ghost use Rattle.dcr_reading.specs.Accepted.{IsCoverIn};
 ghost use Rattle.dcr_reading.specs.Found.{cover_found, told_found, written_in};
 ghost use Rattle.dcr_reading.specs.Lent.{texts_of};
 
+use crate::accepted::{see_cover, see_texts};
 use crate::file::{cover_file, read_written};
-use crate::graph::see_texts;
 use crate::sites::lend;
 use crate::value::{MAX_BYTES, read_json};
 use dcr_canon::{canonical_texts_are_json, cover_text};
@@ -50,6 +50,7 @@ pub fn read_cover_text(
     if !is_cover_text(alloc, graph, &cover, bytes)? {
         return Ok(None);
     }
+    see_cover(nested, graph, &cover);
     Ok(Some(cover))
 }
 

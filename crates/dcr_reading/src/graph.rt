@@ -1,21 +1,19 @@
-ghost use Rattle.std.specs.Prelude.{◌≡◌, ◌≢◌, ◌<◌, ◌^◌, true, length, None, IfOk, IsUtf8, MatchBool};
-ghost use Rattle.std.specs.List.{All};
+ghost use Rattle.std.specs.Prelude.{◌≡◌, ◌≢◌, ◌<◌, ◌^◌, None, IfOk, MatchBool};
 ghost use Rattle.serde_json.specs.View.{view};
-ghost use Rattle.dcr_graph.specs.Names.{is_label};
 ghost use Rattle.dcr_graph.specs.Pairs.{first_clash};
 ghost use Rattle.dcr_nest.specs.FlatRelation.{flat_relation};
-ghost use Rattle.dcr_nest.specs.Nest.{names_of, labels_of};
 ghost use Rattle.dcr_canon.specs.GraphText.{graph_text};
 ghost use Rattle.dcr_shape.specs.Says.{Says};
 ghost use Rattle.dcr_size.specs.Size.{size};
-ghost use Rattle.dcr_reading.specs.Accepted.{AreAllNames, IsGraphIn};
+ghost use Rattle.dcr_reading.specs.Accepted.{IsGraphIn};
 ghost use Rattle.dcr_reading.specs.Found.{nested_found, nodes_of};
 
+use crate::accepted::see_graph;
 use crate::file::{graph_file, read_written};
 use crate::value::{MAX_BYTES, read_json};
 use dcr_canon::{canonical_texts_are_json, graph_text};
 use dcr_graph::GraphStop;
-use dcr_nest::{Nested, Node, Version};
+use dcr_nest::{Nested, Version};
 use dcr_nodes::{Nodes, read_nodes};
 use dcr_set::NoMemory;
 use dcr_shape::ReadStop;
@@ -50,7 +48,7 @@ pub fn read_graph_text(
     if !is_unclashed(alloc, &nested)? {
         return Ok(None);
     }
-    see_texts(nested.nodes());
+    see_graph(&nested);
     Ok(Some(nested))
 }
 
@@ -93,17 +91,5 @@ fn is_unclashed(alloc: Global, nested: &Nested) -> Result<bool, NoMemory>
         Ok(_) => Ok(true),
         Err(GraphStop::Clash { .. }) => Ok(false),
         Err(GraphStop::NoMemory) => Err(NoMemory),
-    }
-}
-
-/// The names of nodes are names and their labels are labels: each is looked at once, which says so.
-pub(crate) fn see_texts(nodes: &[Node])
-    ensures names { AreAllNames (names_of nodes.now) }
-    ensures labels { All (λ label. is_label label ≡ true) (labels_of nodes.now) }
-    ensures texts { All IsUtf8 (labels_of nodes.now) }
-{
-    for node in nodes {
-        let _name = node.name.text();
-        let _label = node.label.text();
     }
 }

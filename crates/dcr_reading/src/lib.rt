@@ -2,6 +2,7 @@
 //! with the reader of case files: the JSON value of bytes, and sites that lend their texts.
 #![tactic(auto)]
 
+mod accepted;
 mod cover;
 mod file;
 mod graph;
@@ -11,6 +12,7 @@ mod sites;
 mod tests;
 mod value;
 
+pub use accepted::{see_cover, see_graph};
 pub use cover::read_cover_text;
 pub use graph::read_graph_text;
 pub use laws::accepted_texts_mean_one;

@@ -25,6 +25,8 @@ returns-clause-fits c =
     let told = c.in_ok-sessions.sessions.items in
     let read = sessions_tell sites names c.args.written.now.sessions told c.in_ok-sessions.ensures in
     record {
+      accepted_graph = c.see_graph.ensures;
+      accepted_cover = c.see_cover.ensures;
       flat = flat;
       rooms = c.in_ok-cover.ensures.rooms;
       opening = subst (λ n. HasRoom n c.args.nodes.opening) (sym atoms) (opening_room c.args.written.now c.args.nodes c.requires.nodes);

@@ -1,15 +1,11 @@
 use Rattle.std.proofs.Common.{◌≡◌, ◌≢◌, length, Option, option_map, IfSome, sym, ap, subst, ◌∙◌}
 use Rattle.std.specs.List.{All}
-use Rattle.std.proofs.lemmas.List.Elements.{All-weaker}
 use Rattle.serde_json.specs.View.{view}
-use Rattle.dcr_nest.specs.Nest.{names_of, parents_of}
-use Rattle.dcr_nest.specs.Tree.{atoms}
+use Rattle.dcr_nest.specs.Nest.{names_of}
 use Rattle.dcr_canon.specs.CoverText.{cover_text}
-use Rattle.dcr_proj.specs.CoverValue.{Owners, IsCover}
-use Rattle.dcr_cover.proofs.CheckLemmas.{length-names}
+use Rattle.dcr_proj.specs.CoverValue.{Owners}
 use Rattle.dcr_reading.specs.Accepted.{AreAllNames}
-use Rattle.dcr_reading.specs.Found.{written_in}
-use Rattle.dcr_reading.proofs.CoverLemmas.{atom_names_are, told_names}
+use Rattle.dcr_reading.proofs.CoverLemmas.{atom_names_are}
 use Rattle.dcr_reading.proofs.CoverNoneLemmas.{none_long, none_json, none_file, none_text}
 use Rattle.dcr_reading.proofs.StageLemmas.{told_no, told_yes}
 use Rattle.dcr_reading.proofs.cover.read_cover_text.Goals as goal
@@ -52,17 +48,13 @@ returns-then-not-branch c =
       is = sym c.in-Some-2.is ∙ c.in_ok-cover.ensures.cover;
     }) (λ same. differ (same ∙ ap (λ atoms. cover_text atoms c.in-Some-2.cover) (sym c.requires.names)))
 
+pub see_cover-requires-clause-rooms : goal.see_cover-requires-clause-rooms
+see_cover-requires-clause-rooms c =
+    subst (λ (found : Option Owners). IfSome found (λ C. All (λ set. length set ≡ length c.args.graph.now.names) C.owned)) c.in-Some-2.is c.in_ok-cover.ensures.rooms
+
 pub returns : goal.returns
 returns c =
-    let N = c.args.nested.now in
     let cover = c.in-Some-2.cover in
     let same = told_yes (c.args.bytes.now ≡ cover_text c.args.graph.now.names cover) (c.args.bytes.now ≢ cover_text c.args.graph.now.names cover)
-    c.in_ok-is_cover_text.field-0 c.in_ok-is_cover_text.ensures c.if-not-branch.false in (
-      record {
-        is_cover = subst IsCover c.cover.view_is c.cover.invariant;
-        names = told_names N (written_in (view c.in_ok-file.file)) cover (sym c.in-Some-2.is ∙ c.in_ok-cover.ensures.cover);
-        rooms = All-weaker (λ set. length set ≡ length c.args.graph.now.names) (λ set. length set ≡ length (atoms (parents_of N.nodes))) (λ set room. room ∙ length-names N c.args.graph.now c.requires)
-            cover.owned (subst (λ (found : Option Owners). IfSome found (λ C. All (λ set. length set ≡ length c.args.graph.now.names) C.owned)) c.in-Some-2.is c.in_ok-cover.ensures.rooms);
-      },
-      same ∙ ap (λ atoms. cover_text atoms cover) c.requires.names,
-    )
+    c.in_ok-is_cover_text.field-0 c.in_ok-is_cover_text.ensures c.if-not-branch.false in
+    (c.see_cover.ensures, same ∙ ap (λ atoms. cover_text atoms cover) c.requires.names)

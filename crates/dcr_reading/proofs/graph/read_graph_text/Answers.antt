@@ -1,12 +1,8 @@
-use Rattle.std.proofs.Common.{◌≡◌, ◌≢◌, true, Some, None, option_map, IsUtf8, sym, ap, subst, ◌∙◌}
-use Rattle.std.specs.List.{All}
+use Rattle.std.proofs.Common.{◌≡◌, ◌≢◌, Some, None, option_map, sym, ap, ◌∙◌}
 use Rattle.serde_json.specs.View.{view}
-use Rattle.dcr_graph.specs.Names.{is_label}
 use Rattle.dcr_graph.specs.Pairs.{first_clash}
 use Rattle.dcr_nest.specs.FlatRelation.{flat_relation}
-use Rattle.dcr_nest.specs.Nest.{names_of, labels_of}
 use Rattle.dcr_canon.specs.GraphText.{graph_text}
-use Rattle.dcr_reading.specs.Accepted.{AreAllNames}
 use Rattle.dcr_reading.specs.Found.{nested_found, nodes_of}
 use Rattle.dcr_reading.proofs.GraphLemmas.{found_version}
 use Rattle.dcr_reading.proofs.GraphNoneLemmas.{none_long, none_json, none_file, none_text, none_clash, IsRead}
@@ -52,16 +48,21 @@ returns-then-not-branch-2 c =
     } in none_clash c.canonical_texts_are_json.ensures c.args.version c.args.bytes.now c.in-Some-2.nested read
     (told_no (first_clash (flat_relation c.in-Some-2.nested) ≡ None) (first_clash (flat_relation c.in-Some-2.nested) ≢ None) c.in_ok-is_unclashed.field-0 c.in_ok-is_unclashed.ensures c.if-not-branch-2.true)
 
+pub see_graph-requires : goal.see_graph-requires
+see_graph-requires c =
+    let N = c.in-Some-2.nested in
+    told_yes (first_clash (flat_relation N) ≡ None) (first_clash (flat_relation N) ≢ None) c.in_ok-is_unclashed.field-0 c.in_ok-is_unclashed.ensures c.if-not-branch-2.false
+
 pub returns : goal.returns
 returns c =
-    let N = c.in-Some-2.nested in (
+    let N = c.in-Some-2.nested in let accepted = c.see_graph.ensures in (
       record {
         of_version = found_version c.args.version (view c.in-Some.value) N (sym c.in-Some-2.is ∙ c.in_ok-nested.ensures ∙ ap (λ d. nested_found (nodes_of d)) c.in_ok-file.ensures.file);
-        nested = c.nodes.ensures.nested;
-        names = subst (λ nodes. AreAllNames (names_of nodes)) c.nodes.ensures.nodes c.see_texts.ensures.names;
-        labels = subst (λ nodes. All (λ label. is_label label ≡ true) (labels_of nodes)) c.nodes.ensures.nodes c.see_texts.ensures.labels;
-        texts = subst (λ nodes. All IsUtf8 (labels_of nodes)) c.nodes.ensures.nodes c.see_texts.ensures.texts;
-        unclashed = told_yes (first_clash (flat_relation N) ≡ None) (first_clash (flat_relation N) ≢ None) c.in_ok-is_unclashed.field-0 c.in_ok-is_unclashed.ensures c.if-not-branch-2.false;
+        nested = accepted.nested;
+        names = accepted.names;
+        labels = accepted.labels;
+        texts = accepted.texts;
+        unclashed = accepted.unclashed;
       },
       told_yes (c.args.bytes.now ≡ graph_text N) (c.args.bytes.now ≢ graph_text N) c.in_ok-is_graph_text.field-0 c.in_ok-is_graph_text.ensures c.if-not-branch.false,
     )

@@ -1,4 +1,4 @@
-use Rattle.std.proofs.Common.{ℕ, ◌++◌, length, sym, ap, subst, ◌∙◌, arith}
+use Rattle.std.proofs.Common.{ℕ, ◌++◌, length, refl, sym, ap, subst, ◌∙◌, arith}
 use Rattle.dcr_report.specs.FitsClosed.{FitsClosed}
 use Rattle.dcr_report.specs.Report.{lines_text, head_lines, entry_lines, site_lines, end_lines, told_text}
 use Rattle.dcr_report.proofs.Passing.{IfErr-from, Passes-held, Passes-next, Passes-left, StopsWithin-next, no_memory_after, lines_some}

@@ -2,7 +2,7 @@ use Rattle.std.proofs.Common.{IsUtf8, sym, subst}
 use Rattle.std.proofs.lemmas.List.{take_all}
 use Rattle.std.proofs.lemmas.List.Elements.{All-more, All-same}
 use Rattle.dcr_reading.proofs.TextLemmas.{IsSeen, names_seen, labels_seen, texts_seen}
-use Rattle.dcr_reading.proofs.graph.see_texts.Goals as goal
+use Rattle.dcr_reading.proofs.accepted.see_texts.Goals as goal
 
 pub loop-node-preserved : goal.loop-node-preserved
 loop-node-preserved c =
