@@ -35,6 +35,7 @@ use Rattle.dcr_replay.specs.EntryLines.{Setting, last_of}
 use Rattle.dcr_replay.specs.FirstWrong.{FromCover, FromGraph, FromHead, IsVerdict, from_opening, opened, setting}
 use Rattle.dcr_replay.specs.HeadLines.{IsCoverAt, IsGraphAt, first_behind, opening_at, version_at}
 use Rattle.dcr_replay.specs.Laws.{IsReport, ValidIsReport}
+use Rattle.dcr_replay.specs.declared.verdict.Verdict.{Verdict}
 use Rattle.dcr_replay.specs.declared.verdict.Verdict.TheVariants.{Valid, Invalid}
 use Rattle.dcr_replay.specs.declared.verdict.Wrong.TheVariants as wrong
 use Rattle.dcr_replay.proofs.LawLemmasLines.{ended, lines_back, lines_cut}
@@ -60,7 +61,7 @@ atoms_named N ok =
 sites_named : (N : Nest) (C : Owners) → IsAcceptedCover N C → AreNames C.names
 sites_named N C ok = record { names = ok.names; distinct = ok.is_cover.distinct }
 
-abbrev setting_of : Nest → Owners → Marking → Setting
+abbrev pub setting_of : Nest → Owners → Marking → Setting
 setting_of N C M = setting (flat_relation N) (atom_names N) C M
 
 fit_of : (N : Nest) (C : Owners) (M : Marking) → IsAcceptedGraph N.version N → IsAcceptedCover N C → AreFit (setting_of N C M)
@@ -73,7 +74,7 @@ fit_of N C M graph cover = record {
 
 -- ---- from the verdict to the report
 
-none_yet : (S : Setting) → IsRun S []
+pub none_yet : (S : Setting) → IsRun S []
 none_yet S = record { legal = λ place entry is. absurd cc; most = omega arith; sessions = All-nil (λ (entry : Entry). entry.session < 1024) }
 
 -- what is found from the line of the opening marking on
@@ -111,7 +112,7 @@ record IsCovered (N : Nest) (lines : List Line) (count : ℕ) : Type 0 where
   further : IsOpened N cover (drop 1 lines) count
   cut : lines ≡ line_of (codes "cover " ++ cover_text (atom_names N) cover) true ∷ drop 1 lines
 
-cover_line_told : (N : Nest) (lines : List Line) (C : Owners) → IsCoverAt N lines (Some C) → IsAcceptedCover N C × (lines ≡ line_of (codes "cover " ++ cover_text (atom_names N) C) true ∷ drop 1 lines)
+pub cover_line_told : (N : Nest) (lines : List Line) (C : Owners) → IsCoverAt N lines (Some C) → IsAcceptedCover N C × (lines ≡ line_of (codes "cover " ++ cover_text (atom_names N) C) true ∷ drop 1 lines)
 cover_line_told N lines C e = at (first_behind (codes "cover ") lines) refl e
   where
     at : (o : Option (List ℕ)) → first_behind (codes "cover ") lines ≡ o → MatchOption o (Some C ≡ None) (λ text. IsCoverIn N text (Some C))
@@ -135,7 +136,7 @@ record IsGraphed (version : Version) (lines : List Line) (count : ℕ) : Type 0 
   further : IsCovered nest (drop 1 lines) count
   cut : lines ≡ line_of (codes "graph " ++ graph_text nest) true ∷ drop 1 lines
 
-graph_line_told : (version : Version) (lines : List Line) (N : Nest) → IsGraphAt version lines (Some N) → IsAcceptedGraph version N × (lines ≡ line_of (codes "graph " ++ graph_text N) true ∷ drop 1 lines)
+pub graph_line_told : (version : Version) (lines : List Line) (N : Nest) → IsGraphAt version lines (Some N) → IsAcceptedGraph version N × (lines ≡ line_of (codes "graph " ++ graph_text N) true ∷ drop 1 lines)
 graph_line_told version lines N e = at (first_behind (codes "graph ") lines) refl e
   where
     at : (o : Option (List ℕ)) → first_behind (codes "graph ") lines ≡ o → MatchOption o (Some N ≡ None) (λ text. IsGraphIn version text (Some N))
@@ -144,7 +145,7 @@ graph_line_told version lines N e = at (first_behind (codes "graph ") lines) ref
     at (Some text) is e = (e.0, first_behind_told (codes "graph ") text lines is ∙ ap (λ t. line_of (codes "graph " ++ t) true ∷ drop 1 lines) e.1)
 
 -- an accepted graph is accepted as one of its own version
-own_version : (version : Version) (N : Nest) → IsAcceptedGraph version N → IsAcceptedGraph N.version N
+pub own_version : (version : Version) (N : Nest) → IsAcceptedGraph version N → IsAcceptedGraph N.version N
 own_version version N ok = subst (λ (v : Version). IsAcceptedGraph v N) (sym ok.of_version) ok
 
 graphed_told : (version : Version) (lines : List Line) (count : ℕ) → FromGraph version lines (Valid count) → IsGraphed version lines count
@@ -175,20 +176,27 @@ texts_of N C M J =
     let S = setting_of N C M in
     report_lines N C (atom_names N) M J (marks_at (flat_relation N) C.owned (last_of S J)) (waits (flat_relation N).atoms (last_of S J))
 
-pub valid_told : (bytes : List ℕ) (count : ℕ) → IsVerdict bytes (Valid count) → IsReport bytes count
-unfolding report_text
-valid_told bytes count e =
-    let head = headed_told (lines_of bytes) count e in
+-- what the lines tell of the report whose lines they are
+record IsTold (lines : List Line) (count : ℕ) : Type 0 where
+  nest : Nest
+  cover : Owners
+  opening : Marking
+  history : List Entry
+  accepted_graph : IsAcceptedGraph nest.version nest
+  accepted_cover : IsAcceptedCover nest cover
+  room : HasRoom (flat_relation nest).atoms opening
+  run : IsRun (setting_of nest cover opening) history
+  cut : lines ≡ ended (texts_of nest cover opening history)
+  counted : count ≡ length history
+
+lines_told : (lines : List Line) (count : ℕ) → FromHead lines (Valid count) → IsTold lines count
+lines_told lines count e =
+    let head = headed_told lines count e in
     let graph = head.further in
     let cover = graph.further in
     let opened = cover.further in
     let N = graph.nest in let C = cover.cover in let M = opened.opening in let J = opened.history in
     let first : line_of (version_text head.version) true ≡ line_of (version_text N.version) true = ap (λ v. line_of (version_text v) true) (sym graph.accepted.of_version) in
-    let cut : lines_of bytes ≡ ended (texts_of N C M J) =
-    head.cut ∙ ap (λ l. l ∷ drop 1 (lines_of bytes)) first
-    ∙ ap (λ ls. line_of (version_text N.version) true ∷ ls) (graph.cut
-    ∙ ap (λ ls. line_of (codes "graph " ++ graph_text N) true ∷ ls) (cover.cut
-    ∙ ap (λ ls. line_of (codes "cover " ++ cover_text (atom_names N) C) true ∷ ls) opened.cut)) in
     record {
       nest = N;
       cover = C;
@@ -197,12 +205,36 @@ valid_told bytes count e =
       accepted_graph = own_version head.version N graph.accepted;
       accepted_cover = cover.accepted;
       room = opened.room;
-      legal = opened.run.legal;
-      most_entries = opened.run.most;
-      sessions = opened.run.sessions;
-      text = lines_back bytes (texts_of N C M J) cut;
+      run = opened.run;
+      cut = head.cut ∙ ap (λ l. l ∷ drop 1 lines) first
+          ∙ ap (λ ls. line_of (version_text N.version) true ∷ ls) (graph.cut
+          ∙ ap (λ ls. line_of (codes "graph " ++ graph_text N) true ∷ ls) (cover.cut
+          ∙ ap (λ ls. line_of (codes "cover " ++ cover_text (atom_names N) C) true ∷ ls) opened.cut));
       counted = opened.counted;
     }
+
+-- the text is the report that is told
+told_report : (lines : List Line) (count : ℕ) → (told : IsTold lines count) → (bytes : List ℕ) → bytes ≡ report_text told.nest told.cover told.opening told.history → IsReport bytes count
+told_report lines count told bytes text = record {
+  nest = told.nest;
+  cover = told.cover;
+  opening = told.opening;
+  history = told.history;
+  accepted_graph = told.accepted_graph;
+  accepted_cover = told.accepted_cover;
+  room = told.room;
+  legal = told.run.legal;
+  most_entries = told.run.most;
+  sessions = told.run.sessions;
+  text = text;
+  counted = told.counted;
+}
+
+pub valid_told : (bytes : List ℕ) (count : ℕ) → IsVerdict bytes (Valid count) → IsReport bytes count
+unfolding report_text
+valid_told bytes count e =
+    let told = lines_told (lines_of bytes) count e in
+    told_report (lines_of bytes) count told bytes (lines_back bytes (texts_of told.nest told.cover told.opening told.history) told.cut)
 
 -- ---- from the report to the verdict
 
@@ -215,7 +247,27 @@ found_so : {A : Type 0} (o : Option A) (a : A) (P : Type 0) (Q : A → Type 0) �
 found_so {A = A} None a P Q e q = absurd cc
 found_so {A = A} (Some b) a P Q e q = subst Q (same_Some _ _ (sym e)) q
 
-from_opening_read : (N : Nest) (C : Owners) (M : Marking) (J : List Entry) → IsAcceptedGraph N.version N → IsAcceptedCover N C → HasRoom (flat_relation N).atoms M → IsRun (setting_of N C M) J
+-- the line of a cover that is accepted
+pub cover_line_read : (N : Nest) (C : Owners) (lines : List Line) (verdict : Verdict) → IsAcceptedCover N C → verdict ≡ from_opening (flat_relation N) (atom_names N) C lines
+    → FromCover N (line_of (codes "cover " ++ cover_text (atom_names N) C) true ∷ lines) verdict
+cover_line_read N C lines verdict cover is =
+    let text = cover_text (atom_names N) C in (
+      Some C,
+      found_so (first_behind (codes "cover ") (line_of (codes "cover " ++ text) true ∷ lines)) text (Some C ≡ None) (λ t. IsCoverIn N t (Some C)) (behind_read (codes "cover ") text) (cover, refl),
+      is,
+    )
+
+-- the line of a graph that is accepted
+pub graph_line_read : (N : Nest) (lines : List Line) (verdict : Verdict) → IsAcceptedGraph N.version N → FromCover N lines verdict
+    → FromGraph N.version (line_of (codes "graph " ++ graph_text N) true ∷ lines) verdict
+graph_line_read N lines verdict graph is =
+    let text = graph_text N in (
+      Some N,
+      found_so (first_behind (codes "graph ") (line_of (codes "graph " ++ text) true ∷ lines)) text (Some N ≡ None) (λ t. IsGraphIn N.version t (Some N)) (behind_read (codes "graph ") text) (graph, refl),
+      is,
+    )
+
+pub from_opening_read : (N : Nest) (C : Owners) (M : Marking) (J : List Entry) → IsAcceptedGraph N.version N → IsAcceptedCover N C → HasRoom (flat_relation N).atoms M → IsRun (setting_of N C M) J
     → from_opening (flat_relation N) (atom_names N) C (line_of (open_text (atom_names N) M) true ∷ lines_after (setting_of N C M) [] J) ≡ Valid (length J)
 from_opening_read N C M J graph cover room run =
     let many : (flat_relation N).atoms ≡ length (atom_names N) = sym (length-of_atoms (parents_of N.nodes) (names_of N.nodes)) in
@@ -242,18 +294,10 @@ module _ (no_ends : HaveNoLineEnd) (N : Nest) (C : Owners) (M : Marking) (J : Li
   graph_lines = line_of (codes "graph " ++ graph_text N) true ∷ cover_lines
 
   cover_read : FromCover N cover_lines (Valid (length J))
-  cover_read = (
-    Some C,
-    found_so (first_behind (codes "cover ") cover_lines) (cover_text names C) (Some C ≡ None) (λ text. IsCoverIn N text (Some C)) (behind_read (codes "cover ") (cover_text names C)) (cover, refl),
-    sym (from_opening_read N C M J graph cover room run),
-  )
+  cover_read = cover_line_read N C opening_lines (Valid (length J)) cover (sym (from_opening_read N C M J graph cover room run))
 
   graph_read : FromGraph N.version graph_lines (Valid (length J))
-  graph_read = (
-    Some N,
-    found_so (first_behind (codes "graph ") graph_lines) (graph_text N) (Some N ≡ None) (λ text. IsGraphIn N.version text (Some N)) (behind_read (codes "graph ") (graph_text N)) (graph, refl),
-    cover_read,
-  )
+  graph_read = graph_line_read N cover_lines (Valid (length J)) graph cover_read
 
   head_read : FromHead (ended (texts_of N C M J)) (Valid (length J))
   head_read = found_so (version_at (ended (texts_of N C M J))) N.version (Valid (length J) ≡ Invalid 1 wrong.Head) (λ version. FromGraph version graph_lines (Valid (length J))) (version_line_read N.version graph_lines) graph_read
@@ -299,3 +343,15 @@ valid_read no_ends bytes count report =
 
 pub valid_is_report : HaveNoLineEnd → ValidIsReport
 valid_is_report no_ends bytes count = (valid_told bytes count, valid_read no_ends bytes count)
+
+-- lines whose verdict is valid are the lines of a report
+pub report_of_lines : HaveNoLineEnd → (lines : List Line) (count : ℕ) → FromHead lines (Valid count) → (bytes : List ℕ) × IsReport bytes count × (lines_of bytes ≡ lines)
+unfolding report_text
+report_of_lines no_ends lines count e =
+    let told = lines_told lines count e in
+    let N = told.nest in let C = told.cover in let M = told.opening in let J = told.history in
+    let texts = texts_of N C M J in (
+      report_text N C M J,
+      told_report lines count told (report_text N C M J) refl,
+      lines_cut texts (texts_lack no_ends N C M J told.accepted_graph told.accepted_cover told.room told.run) ∙ sym told.cut,
+    )

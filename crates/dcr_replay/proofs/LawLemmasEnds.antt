@@ -17,7 +17,7 @@ use Rattle.dcr_replay.specs.declared.verdict.Wrong.TheVariants as wrong
 use Rattle.dcr_replay.proofs.LawLemmasLines.{ended}
 
 -- the texts that are wanted, without the kinds
-abbrev texts_of : List (List ℕ × Wrong) → List (List ℕ)
+abbrev pub texts_of : List (List ℕ × Wrong) → List (List ℕ)
 texts_of wants = map (λ (want : List ℕ × Wrong). want.0) wants
 
 -- the verdict is valid where the lines are the wanted ones
@@ -45,7 +45,7 @@ ends_told count at (want ∷ wants) (line ∷ lines) valid e =
         record { cut = ap (λ l. l ∷ lines) (says_told want.0 line so.0) ∙ ap (λ ls. line_of want.0 true ∷ ls) rest.cut; counted = rest.counted }
     at_test (inr other) more = absurd (let no = other.1 in cc)
 
-ends_read : (count at : ℕ) (wants : List (List ℕ × Wrong)) → ends_by count at wants (ended (texts_of wants)) ≡ Valid count
+pub ends_read : (count at : ℕ) (wants : List (List ℕ × Wrong)) → ends_by count at wants (ended (texts_of wants)) ≡ Valid count
 unfolding ends_by
 ends_read count at [] = refl
 ends_read count at (want ∷ wants) =

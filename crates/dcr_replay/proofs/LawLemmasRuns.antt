@@ -86,7 +86,7 @@ no_digit S J names (site ∷ sites) [] None n = refl
 no_digit S J names (site ∷ sites) [] (Some e) n = refl
 no_digit S J names (site ∷ sites) (mark ∷ marks) waited n = refl
 
-end_read : (S : Setting) (J : List Entry) → run_from S J (ended (behind_entries S J)) ≡ Valid (length J)
+pub end_read : (S : Setting) (J : List Entry) → run_from S J (ended (behind_entries S J)) ≡ Valid (length J)
 end_read S J =
     no_digit S J S.names S.cover.names (marks_at S.rules S.cover.owned (last_of S J)) (waits S.rules.atoms (last_of S J)) (length J) ∙ ends_after_read S J
 

@@ -12,3 +12,5 @@ mod LawLemmasEntries
 mod LawLemmasRuns
 mod LawLemmas
 mod LawLemmasOne
+mod LawLemmasWitness
+mod LawLemmasLeast

@@ -6,6 +6,7 @@ pub mod EndLines
 pub mod FirstWrong
 pub mod Laws
 pub mod OneVerdict
+pub mod LeastWrong
 pub mod Tracks
 pub mod Stands
 pub mod Words

@@ -1,4 +1,5 @@
 ghost use Rattle.dcr_replay.specs.Laws.{ValidIsReport};
+ghost use Rattle.dcr_replay.specs.LeastWrong.{LeastIsTold};
 ghost use Rattle.dcr_replay.specs.OneVerdict.{VerdictIsOne};
 
 use dcr_canon::canonical_texts_have_no_line_end;
@@ -16,5 +17,14 @@ pub fn valid_is_report()
 pub fn a_text_has_one_verdict()
     ensures { VerdictIsOne }
 {
+    accepted_texts_mean_one();
+}
+
+/// The line that is told as wrong is the first wrong one: the lines before it begin the report of a legal history,
+/// and with it they begin none.
+pub fn the_first_wrong_line_is_told()
+    ensures { LeastIsTold }
+{
+    canonical_texts_have_no_line_end();
     accepted_texts_mean_one();
 }

@@ -1,5 +1,5 @@
 //! The replay of a report: whether a text is the report of a legal history, or else which of its lines is the
-//! first wrong one. The plain engine of the whole graph decides; it knows no site.
+//! first wrong one, with which no report begins. The plain engine of the whole graph decides; it knows no site.
 #![tactic(auto)]
 
 mod answer;
@@ -15,5 +15,5 @@ mod tracked;
 mod verdict;
 
 pub use check::check_report;
-pub use laws::{a_text_has_one_verdict, valid_is_report};
+pub use laws::{a_text_has_one_verdict, the_first_wrong_line_is_told, valid_is_report};
 pub use verdict::{Verdict, Wrong};
