@@ -6,6 +6,7 @@ use Rattle.dcr_base.specs.declared.status.Status.TheVariants.{Done, Usage, Refus
 use Rattle.dcr_json.specs.declared.case.CaseStop.TheVariants.{TooLong}
 use Rattle.dcr_replay.specs.FirstWrong.{IsVerdict}
 use Rattle.dcr_replay.specs.Laws.{IsReport, ValidIsReport}
+use Rattle.dcr_replay.specs.LeastWrong.{IsLeastWrong, LeastIsTold}
 use Rattle.dcr_replay.specs.OneVerdict.{VerdictIsOne}
 use Rattle.dcr_replay.specs.declared.verdict.Verdict.{Verdict}
 use Rattle.dcr_replay.specs.declared.verdict.Verdict.TheVariants as verdict
@@ -59,17 +60,21 @@ no_reports None line kind law one finds = tt
 no_reports (Some bytes) line kind law one finds = λ count report.
     let wrong : verdict.Invalid line kind ≡ verdict.Valid count = one bytes (verdict.Invalid line kind) (verdict.Valid count) finds.1 ((law bytes count).1 report) in cc
 
-invalid_by : (left before after : Option (List ℕ)) (found : Option Verdict) (due : Due) → ValidIsReport → VerdictIsOne → IfSome left (λ bytes. Finds bytes found) → due ≡ found_due found
-    → Invalid ≡ due.status → Appends before after due.text → SaysInvalid left before after
-invalid_by left before after None due law one finds owed is wrote = let wrong : Invalid ≡ Refused = is ∙ ap (λ (d : Due). d.status) owed in absurd cc
-invalid_by left before after (Some (verdict.Valid count)) due law one finds owed is wrote = let wrong : Invalid ≡ Done = is ∙ ap (λ (d : Due). d.status) owed in absurd cc
-invalid_by left before after (Some (verdict.Invalid line kind)) due law one finds owed is wrote =
-    record { line = line; kind = kind; first = firsts left (verdict.Invalid line kind) finds; no_report = no_reports left line kind law one finds; wrote = subst (λ (d : Due). Appends before after d.text) owed wrote }
+leasts : (left : Option (List ℕ)) (line : ℕ) (kind : Wrong) → LeastIsTold → IfSome left (λ bytes. Finds bytes (Some (verdict.Invalid line kind))) → IfSome left (λ bytes. IsLeastWrong bytes line)
+leasts None line kind law finds = tt
+leasts (Some bytes) line kind law finds = law bytes line kind finds.1
 
-pub says_invalid : (left before after : Option (List ℕ)) (end : End) → ValidIsReport → VerdictIsOne → end.status ≡ Invalid → Ends (IsDueToReport left) before after end → SaysInvalid left before after
-says_invalid left before after end law one is ends =
+invalid_by : (left before after : Option (List ℕ)) (found : Option Verdict) (due : Due) → ValidIsReport → VerdictIsOne → LeastIsTold → IfSome left (λ bytes. Finds bytes found) → due ≡ found_due found
+    → Invalid ≡ due.status → Appends before after due.text → SaysInvalid left before after
+invalid_by left before after None due law one first finds owed is wrote = let wrong : Invalid ≡ Refused = is ∙ ap (λ (d : Due). d.status) owed in absurd cc
+invalid_by left before after (Some (verdict.Valid count)) due law one first finds owed is wrote = let wrong : Invalid ≡ Done = is ∙ ap (λ (d : Due). d.status) owed in absurd cc
+invalid_by left before after (Some (verdict.Invalid line kind)) due law one first finds owed is wrote =
+    record { line = line; kind = kind; first = firsts left (verdict.Invalid line kind) finds; least = leasts left line kind first finds; no_report = no_reports left line kind law one finds; wrote = subst (λ (d : Due). Appends before after d.text) owed wrote }
+
+pub says_invalid : (left before after : Option (List ℕ)) (end : End) → ValidIsReport → VerdictIsOne → LeastIsTold → end.status ≡ Invalid → Ends (IsDueToReport left) before after end → SaysInvalid left before after
+says_invalid left before after end law one first is ends =
     let w = whole_at Invalid (IsDueToReport left) before after end tt is ends in
-    invalid_by left before after w.is.found w.due law one w.is.finds w.is.owed (sym is ∙ w.status) w.wrote
+    invalid_by left before after w.is.found w.due law one first w.is.finds w.is.owed (sym is ∙ w.status) w.wrote
 
 refuses_by : (left before after : Option (List ℕ)) (found : Option Verdict) (due : Due) → IfSome left (λ bytes. Finds bytes found) → due ≡ found_due found
     → Refused ≡ due.status → Appends before after due.text → Refuses (Some Replay) left before after

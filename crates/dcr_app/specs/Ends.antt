@@ -14,6 +14,7 @@ use Rattle.dcr_json.specs.declared.case.CaseStop.{CaseStop}
 use Rattle.dcr_json.specs.declared.case.CaseStop.TheVariants.{TooLong}
 use Rattle.dcr_replay.specs.FirstWrong.{IsVerdict}
 use Rattle.dcr_replay.specs.Laws.{IsReport}
+use Rattle.dcr_replay.specs.LeastWrong.{IsLeastWrong}
 use Rattle.dcr_replay.specs.declared.verdict.Verdict.{Verdict}
 use Rattle.dcr_replay.specs.declared.verdict.Verdict.TheVariants as verdict
 use Rattle.dcr_replay.specs.declared.verdict.Wrong.{Wrong}
@@ -133,11 +134,13 @@ pub record SaysValid (left before after : Option (List ℕ)) : Type 0 where
   pub report : IfSome left (λ bytes. IsReport bytes count)
   pub wrote : Appends before after (codes "valid " ++ decimal count ++ codes "\n")
 
--- the line that was written says which line of the input is the first wrong one; the input is no report of a legal history
+-- The line that was written says which line of the input is the first wrong one: the lines before it begin the report of a
+-- legal history, and with it they begin none. So the input is no such report.
 pub record SaysInvalid (left before after : Option (List ℕ)) : Type 0 where
   pub line : ℕ
   pub kind : Wrong
   pub first : IfSome left (λ bytes. IsVerdict bytes (verdict.Invalid line kind))
+  pub least : IfSome left (λ bytes. IsLeastWrong bytes line)
   pub no_report : IfSome left (λ bytes. (count : ℕ) → IsReport bytes count → ⊥)
   pub wrote : Appends before after (verdict_line (verdict.Invalid line kind))
 

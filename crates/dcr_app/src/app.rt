@@ -13,7 +13,7 @@ use crate::run::run;
 use crate::say::say;
 use dcr_base::{Sink, Source, Status};
 use dcr_journal::Closed;
-use dcr_replay::{a_text_has_one_verdict, valid_is_report};
+use dcr_replay::{a_text_has_one_verdict, the_first_wrong_line_is_told, valid_is_report};
 use std::alloc::Global;
 
 /// How the program ended, and the run where there was one.
@@ -84,6 +84,7 @@ pub fn dcr<R, I: Source, O: Sink>(
             // What the definition of the first wrong line says, for the clauses on `replay`.
             valid_is_report();
             a_text_has_one_verdict();
+            the_first_wrong_line_is_told();
             replay(alloc, input, output)
         }
     }

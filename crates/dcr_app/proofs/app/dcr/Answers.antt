@@ -13,7 +13,7 @@ returns-in-Some-Replay-clause-valid g c = λ _ done.
 
 pub returns-in-Some-Replay-clause-invalid : goal.returns-in-Some-Replay-clause-invalid
 returns-in-Some-Replay-clause-invalid g c = λ invalid.
-    says_invalid (g.I.Source.left c.args.input.now) (g.O.Sink.taken c.args.output.now) (g.O.Sink.taken c.replay.new.output) c.replay.result c.valid_is_report.ensures c.a_text_has_one_verdict.ensures invalid c.replay.ensures.ends
+    says_invalid (g.I.Source.left c.args.input.now) (g.O.Sink.taken c.args.output.now) (g.O.Sink.taken c.replay.new.output) c.replay.result c.valid_is_report.ensures c.a_text_has_one_verdict.ensures c.the_first_wrong_line_is_told.ensures invalid c.replay.ensures.ends
 
 pub returns-in-Some-Replay-clause-checked : goal.returns-in-Some-Replay-clause-checked
 returns-in-Some-Replay-clause-checked g c = λ _ reads writes.
