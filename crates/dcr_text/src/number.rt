@@ -1,12 +1,14 @@
-ghost use Rattle.std.specs.Prelude.{◌≡◌, ◌↔◌, ℕ, ◌<◌, ◌^◌, ◌++◌, decimal, IsTrue, OnOk, OnErr};
+ghost use Rattle.std.specs.Prelude.{◌≡◌, ◌↔◌, ℕ, ◌+◌, ◌<◌, ◌≤◌, ◌^◌, ◌++◌, decimal, length, vec_len, vec_capacity, IsOk, IsTrue, OnOk, OnErr};
 
 use dcr_set::NoMemory;
 use itoa::Buffer;
 
-/// Adds the decimal form of a number to `out`. Where memory runs out, `out` is as it was.
+/// Adds the decimal form of a number to `out`. Where memory runs out, `out` is as it was; where `out` has
+/// room for it already, none is wanted.
 pub fn decimal(n: u64, out: &mut Vec<u8>) -> Result<(), NoMemory>
     ensures added { OnOk result (out.new.items ≡ out.old.items ++ decimal n) }
     ensures unchanged { OnErr result (out.new.items ≡ out.old.items) }
+    ensures reserved { vec_len out.old + length (decimal n) ≤ vec_capacity out.old → IsOk result }
 {
     out.extend_from_slice(Buffer::new().format(n).as_bytes())?;
     Ok(())
