@@ -222,3 +222,39 @@ fn marks_are_copied(rt: HostRuntime) {
     assert_eq!(rt; members(&again.pending), [false, false, true]);
     assert_eq!(rt; members(&again.included), [true, true, false]);
 }
+
+#[test]
+fn stops_say_why(rt: HostRuntime) -> Result<(), Fail> {
+    let alloc = rt.alloc();
+    let clash = GraphStop::Clash {
+        a: EventId(1),
+        b: EventId(2),
+    };
+    let said = [
+        (format!(in alloc; "{}", NameStop::NotName)?, "not a name"),
+        (
+            format!(in alloc; "{}", NameStop::NoMemory)?,
+            "out of memory",
+        ),
+        (
+            format!(in alloc; "{}", LabelStop::Long)?,
+            "a label of more than 200 bytes",
+        ),
+        (
+            format!(in alloc; "{}", LabelStop::NoMemory)?,
+            "out of memory",
+        ),
+        (
+            format!(in alloc; "{clash}")?,
+            "a pair is both included and excluded",
+        ),
+        (
+            format!(in alloc; "{}", GraphStop::NoMemory)?,
+            "out of memory",
+        ),
+    ];
+    for (text, wanted) in said {
+        assert_eq!(rt; text.as_str(), wanted);
+    }
+    Ok(())
+}
