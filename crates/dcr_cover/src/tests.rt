@@ -297,3 +297,26 @@ fn lent_texts_are_read(rt: HostRuntime) -> Result<(), Fail> {
     assert_eq!(rt; twice.err(), Some(CoverStop::SiteName { i: 1 }));
     Ok(())
 }
+
+#[test]
+fn stops_say_why(rt: HostRuntime) -> Result<(), Fail> {
+    let alloc = rt.alloc();
+    for (stop, wanted) in [
+        (
+            CoverStop::SiteName { i: 3 },
+            "the name of site 3 is no name, or is an earlier site's",
+        ),
+        (
+            CoverStop::Owned { i: 3, j: 5 },
+            "owned text 5 of site 3 is no event's name",
+        ),
+        (
+            CoverStop::Uncovered { a: EventId(7) },
+            "no site owns an atom",
+        ),
+        (CoverStop::NoMemory, "out of memory"),
+    ] {
+        assert_eq!(rt; format!(in alloc; "{stop}")?.as_str(), wanted);
+    }
+    Ok(())
+}
