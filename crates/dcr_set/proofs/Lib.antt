@@ -3,3 +3,4 @@ pub mod BitLemmas
 pub mod SetLemmas
 pub mod StandsLemmas
 pub mod NumbersLemmas
+pub mod ToldLemmas

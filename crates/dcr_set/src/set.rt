@@ -101,6 +101,28 @@ impl EventSet {
         words::keep(&mut self.words, &other.words);
     }
 
+    /// What is in one or the other.
+    pub fn joined(&self, other: &EventSet) -> EventSet
+        requires { length self.now ≡ length other.now }
+        ensures joined { result ≡ union self.now other.now }
+        ensures room { length result ≡ length self.now }
+    {
+        let mut either = self.copy();
+        either.union_with(other);
+        either
+    }
+
+    /// What is in both.
+    pub fn common(&self, other: &EventSet) -> EventSet
+        requires { length self.now ≡ length other.now }
+        ensures common { result ≡ intersection self.now other.now }
+        ensures room { length result ≡ length self.now }
+    {
+        let mut both = self.copy();
+        both.keep_with(other);
+        both
+    }
+
     /// Whether an event is in both.
     pub fn meets(&self, other: &EventSet) -> bool
         requires { length self.now ≡ length other.now }

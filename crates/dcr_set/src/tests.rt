@@ -185,6 +185,10 @@ fn assert_joins(
     let mut set = first.copy();
     set.minus_with(second);
     assert!(rt; holds(&set, left), "left: {left:?}");
+    let set = first.joined(second);
+    assert!(rt; holds(&set, either), "either: {either:?}");
+    let set = first.common(second);
+    assert!(rt; holds(&set, both), "both: {both:?}");
     assert!(rt; first.meets(second) != both.is_empty(), "both: {both:?}");
     assert!(rt;
         first.first_common(second) == first_of(both),
