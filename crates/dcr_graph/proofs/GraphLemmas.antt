@@ -1,5 +1,5 @@
 -- The least clash of a graph.
-use Rattle.std.proofs.Common.{◌+◌, ◌||◌, eqb, true, false, refl, length, take, arith, List, [], get_or, replicate, ◌≡◌, ℕ, ◌<◌, Bool, ◌&&◌, Some, None, is_some, sym, ap, ◌∙◌}
+use Rattle.std.proofs.Common.{◌+◌, ◌||◌, eqb, false, length, take, arith, List, [], get_or, replicate, ◌≡◌, ℕ, ◌<◌, Bool, ◌&&◌, Some, None, is_some, sym, ap, ◌∙◌}
 use Rattle.std.specs.Option.{option_map, option_and_then}
 use mathlib.Core.Path.{fun_ext}
 use Rattle.std.proofs.lemmas.List.{get_or-replicate}
@@ -12,6 +12,7 @@ use Rattle.dcr_graph.specs.Rules.{Rules, kind_number, same_kind}
 use Rattle.dcr_graph.specs.Rows.{leads}
 use Rattle.dcr_graph.specs.declared.kind.Kind.{Kind}
 use Rattle.dcr_graph.specs.declared.kind.Kind.TheVariants.{Condition, Response, Milestone, Include, Exclude, Cancel}
+use Rattle.dcr_graph.proofs.BoolLemmas.{or_assoc}
 use Rattle.dcr_graph.proofs.TableLemmas.{leads-none}
 use Rattle.dcr_graph.specs.Pairs.{Pair, is_listed, clashes, first_clash}
 
@@ -63,10 +64,6 @@ is_listed-more pairs i pair within read kind a b =
 
 pub or_chain : (now self old before this after : Bool) → now ≡ (self || this) → self ≡ (old || before) → after ≡ (before || this) → now ≡ (old || after)
 or_chain now self old before this after e f g = e ∙ ap (λ t. t || this) f ∙ or_assoc old before this ∙ ap (λ t. old || t) (sym g)
-  where
-    or_assoc : (a b c : Bool) → ((a || b) || c) ≡ (a || (b || c))
-    or_assoc true b c = refl
-    or_assoc false b c = refl
 
 -- rules with as many atoms that relate the same are the same
 pub same_rules : (G H : Rules) → G.atoms ≡ H.atoms → ((kind : Kind) (a b : ℕ) → G.related kind a b ≡ H.related kind a b) → G ≡ H

@@ -2,3 +2,4 @@ pub mod TableLemmas
 pub mod GraphLemmas
 pub mod BoolLemmas
 pub mod LocalLaws
+pub mod NamesLemmas

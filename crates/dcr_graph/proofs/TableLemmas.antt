@@ -1,5 +1,5 @@
 -- Rows of sets: what adding one event to one row does, and the empty rows.
-use Rattle.std.proofs.Common.{◌≡◌, ℕ, ◌<◌, ◌≤◌, Bool, true, false, ◌&&◌, ◌||◌, eqb, List, [], length, get_or, set, replicate, inl, inr, refl, sym, ap, ◌∙◌, arith}
+use Rattle.std.proofs.Common.{◌≡◌, ℕ, ◌<◌, ◌≤◌, false, ◌&&◌, ◌||◌, eqb, List, [], length, get_or, set, replicate, inl, inr, refl, sym, ap, ◌∙◌, arith}
 use Rattle.std.proofs.lemmas.Bool.{cases_eq, cases_lt, eq-eqb, ne_eqb}
 use Rattle.std.proofs.lemmas.List.{get_or-set_same, get_or-set_other, get_or_read, get_or-replicate, get_or_past, length-set, length-replicate}
 use Rattle.dcr_set.specs.EventSet.{Set, has, those, no_event, with_event}
@@ -7,26 +7,11 @@ use Rattle.dcr_set.proofs.SetLemmas.{has-those, has_past, length-those, those-ha
 use Rattle.dcr_set.proofs.StandsLemmas.{has-those_all}
 use Rattle.dcr_graph.specs.Rows.{row, leads}
 use Rattle.dcr_graph.specs.TableModel.{IsTable}
+use Rattle.dcr_graph.proofs.BoolLemmas.{and_comm, or_comm, or_false}
 use Rattle.dcr_graph.specs.declared.table.Table.TheInside.{Inside}
 
 has-with_event : (r : Set) (b : ℕ) → b < length r → (y : ℕ) → has (with_event r b) y ≡ (eqb y b || has r y)
 has-with_event r b below y = has-those_all (length r) (λ k. eqb k b || has r k) (λ k past. ap (λ t. t || has r k) (ne_eqb k b (λ same. absurd (omega arith))) ∙ has_past r k past) y
-
-or_comm : (a b : Bool) → (a || b) ≡ (b || a)
-or_comm true true = refl
-or_comm true false = refl
-or_comm false true = refl
-or_comm false false = refl
-
-or_false : (a : Bool) → (a || false) ≡ a
-or_false true = refl
-or_false false = refl
-
-and_comm : (a b : Bool) → (a && b) ≡ (b && a)
-and_comm true true = refl
-and_comm true false = refl
-and_comm false true = refl
-and_comm false false = refl
 
 eqb_comm : (a b : ℕ) → eqb a b ≡ eqb b a
 eqb_comm a b = elim (cases_eq a b) [ inl same ↦ eq-eqb a b same ∙ sym (eq-eqb b a (sym same)) | inr differ ↦ ne_eqb a b differ ∙ sym (ne_eqb b a (λ same. differ (sym same))) ]

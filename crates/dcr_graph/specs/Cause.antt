@@ -1,7 +1,7 @@
--- Why an atom can't be executed at a marking, and what a marking waits for.
-use Rattle.std.specs.Prelude.{ℕ, Bool, not, ◌&&◌, Option, Some, None, option_map, if◌then◌else◌}
+-- Why an atom can't be executed at a marking, which atoms can, and what a marking waits for.
+use Rattle.std.specs.Prelude.{ℕ, Bool, not, ◌&&◌, Option, Some, None, is_none, option_map, if◌then◌else◌}
 use Rattle.dcr_set.specs.Least.{least}
-use Rattle.dcr_set.specs.EventSet.{has}
+use Rattle.dcr_set.specs.EventSet.{Set, has, those}
 use Rattle.dcr_graph.specs.Rules.{Rules}
 use Rattle.dcr_graph.specs.declared.kind.Kind.TheVariants as kind
 use Rattle.dcr_graph.specs.declared.kind.Cause.{Cause}
@@ -24,6 +24,14 @@ first_block None milestone = option_map Milestone milestone
 -- the cause that blocks e, the first that holds: excluded; the least open condition; the least pending milestone
 abbrev pub cause : Rules → Marking → ℕ → Option Cause
 cause G M e = if has M.included e then first_block (least G.atoms (is_open_condition G M e)) (least G.atoms (is_pending_milestone G M e)) else Some Excluded
+
+-- a is an atom of S that no cause blocks
+abbrev pub is_enabled_in : Rules → Set → Marking → ℕ → Bool
+is_enabled_in G S M a = has S a && is_none (cause G M a)
+
+-- the enabled atoms of S
+abbrev pub enabled_in : Rules → Set → Marking → Set
+enabled_in G S M = those G.atoms (is_enabled_in G S M)
 
 -- the least atom that is included and pending; the marking is accepting where there is none
 abbrev pub waits : ℕ → Marking → Option ℕ

@@ -54,12 +54,13 @@ impl Model for Graph {
 impl Graph {
     ghost use Rattle.std.specs.Prelude.{◌≡◌, ◌≢◌, ℕ, ◌<◌, ◌≤◌, ◌&&◌, ◌||◌, ◌==◌, length, None, vec_len, IfOk, IfErr, OnOk, slice_index_or, []};
     ghost use Rattle.std.specs.List.{All};
-    ghost use Rattle.dcr_set.specs.EventSet.{those};
+    ghost use Rattle.dcr_set.specs.EventSet.{has, those};
     ghost use Rattle.dcr_set.specs.declared.id.TheConstants.{MAX_ATOMS};
     ghost use Rattle.dcr_graph.specs.Names.{AreDistinct, number_of};
     ghost use Rattle.dcr_graph.specs.Rules.{same_kind};
     ghost use Rattle.dcr_graph.specs.declared.kind.Kind.{Kind};
     ghost use Rattle.dcr_graph.specs.GraphValue.{rules_of, flat};
+    ghost use Rattle.dcr_graph.specs.Projection.{leads_to};
     ghost use Rattle.dcr_graph.specs.Pairs.{AreInRange, is_listed, rules_listed, first_clash, TellsClash};
 
     /// The graph of these atoms and pairs. `Clash` comes exactly where an include pair is an exclude pair,
@@ -242,6 +243,22 @@ impl Graph {
         ensures room { length result.now ≡ length self.now.names }
     {
         self.tables[kind.number()].targets(e)
+    }
+
+    /// The atoms that are related by the kind to one of these, a set over the atoms.
+    pub fn sources_into(&self, kind: Kind, targets: &EventSet) -> EventSet
+        requires { length targets.now ≡ length self.now.names }
+        ensures sources { result ≡ those (length self.now.names) (leads_to (rules_of self.now) kind (has targets.now)) }
+        ensures room { length result ≡ length self.now.names }
+    {
+        let mut sources = EventSet::new(self.atoms());
+        for number in 0..self.atoms() {
+            let e = EventId(number);
+            if targets.meets(self.targets(kind, e)) {
+                sources.insert(e);
+            }
+        }
+        sources
     }
 }
 

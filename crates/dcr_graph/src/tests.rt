@@ -147,6 +147,12 @@ fn a_graph_tells_its_atoms_and_pairs(rt: HostRuntime) -> Result<(), Fail> {
         assert_eq!(rt; graph.find(name), Some(EventId(number)));
     }
     assert_eq!(rt; graph.find("Sign"), None);
+    let into_two = event_set(&[1, 2]);
+    assert!(rt; into_two.room() == graph.atoms());
+    assert_eq!(rt;
+        members(&graph.sources_into(Kind::Condition, &into_two)),
+        [true, true, false]
+    );
     let none = [false, false, false];
     // The kind, the atom, its sources, its targets.
     let rows = [
