@@ -1,8 +1,7 @@
-ghost use Rattle.std.specs.Prelude.{◌≡◌, ◌<◌, ◌&&◌, length, IsOk, IfOk, is_none};
+ghost use Rattle.std.specs.Prelude.{◌≡◌, ◌<◌, length, IsOk, IfOk};
 ghost use Rattle.dcr_set.specs.Least.{least};
-ghost use Rattle.dcr_set.specs.EventSet.{has, those};
 ghost use Rattle.dcr_graph.specs.GraphValue.{rules_of};
-ghost use Rattle.dcr_graph.specs.Cause.{cause, waits, is_open_condition, is_pending_milestone};
+ghost use Rattle.dcr_graph.specs.Cause.{cause, enabled_in, waits, is_open_condition, is_pending_milestone};
 ghost use Rattle.dcr_graph.specs.Step.{step};
 ghost use Rattle.dcr_graph.specs.Projection.{HasRoom};
 
@@ -98,7 +97,7 @@ impl<'g> Plain<'g> {
     /// Those of the events, a set over the atoms, that no cause blocks.
     pub fn enabled_in(&self, events: &EventSet) -> EventSet
         requires { length events.now ≡ length self.now.graph.names }
-        ensures enabled { let G = rules_of self.now.graph in result ≡ those G.atoms (λ a. has events.now a && is_none (cause G self.now.marking a)) }
+        ensures enabled { result ≡ enabled_in (rules_of self.now.graph) events.now self.now.marking }
         ensures room { length result ≡ length self.now.graph.names }
     {
         let atoms = self.graph.atoms();

@@ -1,14 +1,14 @@
--- Marks on nodes: one more is set, and the set of the numbers whose nodes are marked, one number at a time.
-use Rattle.std.proofs.Common.{◌≡◌, ℕ, ◌+◌, ◌<◌, ◌≤◌, Bool, true, false, ◌&&◌, ◌||◌, eqb, ltb, List, [], ◌∷◌, ◌++◌, length, get_or, set, take, map, Some, None, inl, inr, refl, sym, ap, ◌∙◌, arith}
+-- Marks on nodes: one more is set, and the set of the atoms whose nodes are marked.
+use Rattle.std.proofs.Common.{◌≡◌, ℕ, ◌+◌, ◌<◌, Bool, true, false, ◌||◌, eqb, List, [], ◌∷◌, ◌++◌, length, get_or, set, take, map, Some, None, inl, inr, refl, sym, ap, ◌∙◌, arith}
 use Rattle.std.specs.List.{range_with_len}
 use Rattle.std.specs.Option.{option_map_or}
-use Rattle.std.proofs.lemmas.Bool.{cases_eq, cases_order, eq-eqb, ne_eqb, lt-ltb, le-ltb}
+use Rattle.std.proofs.lemmas.Bool.{cases_eq, eq-eqb, ne_eqb}
 use Rattle.std.proofs.lemmas.List.{get_or-map, get_or-set_same, get_or-set_other}
 use Rattle.std.proofs.lemmas.List.Folds.{list_any_more}
 use Rattle.std.proofs.lemmas.List.FromFn.{get_or-map-range_with_len, map-range_with_len_more}
 use Rattle.dcr_graph.proofs.BoolLemmas.{or_false, or_true}
-use Rattle.dcr_set.specs.EventSet.{has, those, with_event}
-use Rattle.dcr_set.proofs.SetLemmas.{length-those, has-those, those-ext}
+use Rattle.dcr_set.specs.EventSet.{those}
+use Rattle.dcr_set.proofs.SetLemmas.{those-ext}
 use Rattle.dcr_nest.specs.Tree.{Parents, parent_of, AreEarlier, is_parent, is_at_or_below, atoms, atoms_below}
 use Rattle.dcr_nest.proofs.TreeLemmas.{same_at_parent, meets_once}
 use Rattle.dcr_nest.proofs.AtomLemmas.{atoms-within}
@@ -48,42 +48,6 @@ parent_marked parents i x marks p within here room before =
 pub none_marked : (parents : Parents) (i x : ℕ) → i < length parents → parent_of parents i ≡ None → is_parent (take i parents) x ≡ is_parent (take (i + 1) parents) x
 none_marked parents i x within here =
     sym (is_parent_more parents i x within ∙ ap (λ parent. is_parent (take i parents) x || option_map_or (λ q. eqb q x) parent false) here ∙ or_false (is_parent (take i parents) x))
-
--- the numbers below e that pass, and e
-pub one_more : (n e : ℕ) (q : ℕ → Bool) → e < n → q e ≡ true → with_event (those n (λ k. ltb k e && q k)) e ≡ those n (λ k. ltb k (e + 1) && q k)
-one_more n e q within passes =
-    ap (λ m. those m (λ k. eqb k e || has (those n (λ j. ltb j e && q j)) k)) (length-those n (λ k. ltb k e && q k))
-    ∙ those-ext n (λ k. eqb k e || has (those n (λ j. ltb j e && q j)) k) (λ k. ltb k (e + 1) && q k)
-    (λ k below. ap (λ t. eqb k e || t) (has-those n (λ j. ltb j e && q j) k below) ∙ at k)
-  where
-    at : (k : ℕ) → (eqb k e || (ltb k e && q k)) ≡ (ltb k (e + 1) && q k)
-    at k = elim (cases_order k e) [
-      | inl same ↦ ap (λ t. t || (ltb k e && q k)) (eq-eqb k e same) ∙ sym (ap (λ t. t && q k) (lt-ltb k (e + 1) (omega arith)) ∙ ap q same ∙ passes)
-      | inr differ ↦ elim differ [
-        | inl before ↦
-            ap (λ t. t || (ltb k e && q k)) (ne_eqb k e (λ same. absurd (omega arith))) ∙ ap (λ t. t && q k) (lt-ltb k e before)
-            ∙ sym (ap (λ t. t && q k) (lt-ltb k (e + 1) (omega arith)))
-        | inr after ↦
-            ap (λ t. t || (ltb k e && q k)) (ne_eqb k e (λ same. absurd (omega arith))) ∙ ap (λ t. t && q k) (le-ltb k e (omega arith))
-            ∙ sym (ap (λ t. t && q k) (le-ltb k (e + 1) (omega arith)))
-      ]
-    ]
-
--- e does not pass
-pub none_more : (n e : ℕ) (q : ℕ → Bool) → q e ≡ false → those n (λ k. ltb k e && q k) ≡ those n (λ k. ltb k (e + 1) && q k)
-none_more n e q fails = those-ext n (λ k. ltb k e && q k) (λ k. ltb k (e + 1) && q k) (λ k _. at k)
-  where
-    at : (k : ℕ) → (ltb k e && q k) ≡ (ltb k (e + 1) && q k)
-    at k = elim (cases_order k e) [
-      | inl same ↦ ap (λ t. t && q k) (le-ltb k e (omega arith)) ∙ sym (ap (λ t. t && q k) (lt-ltb k (e + 1) (omega arith)) ∙ ap q same ∙ fails)
-      | inr differ ↦ elim differ [
-        | inl before ↦ ap (λ t. t && q k) (lt-ltb k e before) ∙ sym (ap (λ t. t && q k) (lt-ltb k (e + 1) (omega arith)))
-        | inr after ↦ ap (λ t. t && q k) (le-ltb k e (omega arith)) ∙ sym (ap (λ t. t && q k) (le-ltb k (e + 1) (omega arith)))
-      ]
-    ]
-
-pub all_tried : (n e : ℕ) (q : ℕ → Bool) → n ≤ e → those n (λ k. ltb k e && q k) ≡ those n q
-all_tried n e q past = those-ext n (λ k. ltb k e && q k) q (λ k below. ap (λ t. t && q k) (lt-ltb k e (omega arith)))
 
 -- a node is at or below where it is the node, or its parent is marked
 next_mark : (parents : Parents) (node x : ℕ) (marks : List Bool) (b : Bool) → AreEarlier parents

@@ -22,30 +22,6 @@ use Rattle.dcr_nodes.specs.Words.{IsEarlierName, IsEventName, IsParentName}
 
 -- ---- an index
 
--- the first place that passes is the least
-position_least : {K : Type 0} (p : K → Bool) (keys : List K) (d : K) → position p keys ≡ least (length keys) (λ k. p (get_or keys k d))
-position_least p keys d = elim (cases_lt (position_or_len p keys) (length keys)) [
-  | inl within ↦
-      ap (λ t. cond t (Some (position_or_len p keys)) None) (lt-ltb (position_or_len p keys) (length keys) within)
-      ∙ sym (least-from (length keys) (λ k. p (get_or keys k d)) (position_or_len p keys) (record {
-        below = within;
-        passes = passes_at_first p keys d within;
-        none_before = λ j l. fails_before_first p keys j d l;
-      }))
-  | inr past ↦
-      ap (λ t. cond t (Some (position_or_len p keys)) None) (le-ltb (position_or_len p keys) (length keys) past)
-      ∙ sym (least-none_from (length keys) (λ k. p (get_or keys k d)) (λ j l. fails_before_first p keys j d (omega arith)))
-]
-
--- the place of a text among the keys is the number that it has among the names
-pub place_is : {K : Type 0} (see : K → List ℕ) (keys : List K) (text : List ℕ) → position (λ k. bytes_eq text (see k)) keys ≡ number_of (map see keys) text
-place_is see [] text = sym (least-none_from 0 (λ k. bytes_eq (get_or {A = List ℕ} [] k []) text) (λ j l. absurd (omega arith)))
-place_is see (x ∷ xs) text =
-    position_least (λ k. bytes_eq text (see k)) (x ∷ xs) x
-    ∙ least-ext (length (x ∷ xs)) (λ k. bytes_eq text (see (get_or (x ∷ xs) k x))) (λ k. bytes_eq (get_or (map see (x ∷ xs)) k []) text) (λ k below.
-    ap (bytes_eq text) (sym (get_or-map see (x ∷ xs) k x [] below)) ∙ nat_list_eq_equiv.symm text (get_or (map see (x ∷ xs)) k []))
-    ∙ ap (λ n. least n (λ k. bytes_eq (get_or (map see (x ∷ xs)) k []) text)) (sym (length-map (x ∷ xs) see))
-
 any_false : {K : Type 0} (p : K → Bool) (keys : List K) → list_any p keys ≡ false → (k : ℕ) (d : K) → k < length keys → p (get_or keys k d) ≡ false
 any_false p keys none k d l = at (p (get_or keys k d)) refl
   where

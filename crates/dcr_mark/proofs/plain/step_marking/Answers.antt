@@ -1,9 +1,15 @@
-use Rattle.std.proofs.Common.{not, ◌&&◌, ◌||◌, eqb, length, ap, ◌∙◌}
-use Rattle.dcr_set.specs.EventSet.{has, those}
+use Rattle.std.proofs.Common.{◌≡◌, not, ◌&&◌, ◌||◌, eqb, length, ap, ◌∙◌}
+use Rattle.dcr_set.specs.EventSet.{Set, has, those}
+use Rattle.dcr_set.proofs.ToldLemmas.{joined_told, told_by_members}
 use Rattle.dcr_graph.specs.GraphValue.{rules_of}
 use Rattle.dcr_graph.specs.declared.kind.Kind.TheVariants as kind
-use Rattle.dcr_mark.proofs.PlainLemmas.{joined_told, told_by_members, same_marking}
+use Rattle.dcr_graph.specs.declared.marking.Marking.{Marking}
 use Rattle.dcr_mark.proofs.plain.step_marking.Goals as goal
+
+-- markings with the same sets are the same
+same_marking : (ex ex' re re' inc inc' : Set) → ex ≡ ex' → re ≡ re' → inc ≡ inc'
+    → (let m : Marking = record { executed = ex; pending = re; included = inc } in m) ≡ record { executed = ex'; pending = re'; included = inc' }
+same_marking ex ex' re re' inc inc' p q r = cc
 
 pub returns-clause-stepped : goal.returns-clause-stepped
 returns-clause-stepped c =

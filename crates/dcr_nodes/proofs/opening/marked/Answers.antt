@@ -2,7 +2,7 @@ use Rattle.std.proofs.Common.{◌≡◌, ℕ, ◌&&◌, Bool, ltb, length, get_o
 use Rattle.std.proofs.lemmas.Option.{get_or_from_slice_get}
 use Rattle.dcr_set.specs.EventSet.{with_event}
 use Rattle.dcr_set.proofs.SetLemmas.{length-those}
-use Rattle.dcr_nest.proofs.MarkLemmas.{one_more, none_more, all_tried}
+use Rattle.dcr_set.proofs.ToldLemmas.{filled_more, filled_same, filled_all}
 use Rattle.dcr_shape.specs.Items.{event_of}
 use Rattle.dcr_shape.specs.Parts.{no_event}
 use Rattle.dcr_nodes.specs.Opening.{has_mark}
@@ -11,7 +11,7 @@ use Rattle.dcr_nodes.proofs.opening.marked.Goals.{then-is_marked, else-is_marked
 
 pub insert-requires : goal.insert-requires
 insert-requires c =
-    let room = ap (λ s. length s) c.loop-a.invariant ∙ length-those (length c.args.atoms.now) (λ k. ltb k c.loop-a.a && has_mark c.args.mark (get_or c.args.events.now (get_or c.args.atoms.now k 0) no_event)) in
+    let room = ap (λ s. length s) c.loop-a.invariant ∙ length-those (length c.args.atoms.now) (λ k. has_mark c.args.mark (get_or c.args.events.now (get_or c.args.atoms.now k 0) no_event) && ltb k c.loop-a.a) in
     omega arith
 
 pub loop-a-preserved : goal.loop-a-preserved
@@ -24,11 +24,11 @@ loop-a-preserved c =
     elim c.if-is_marked.branch [
       | then-is_marked w ↦
           w.set-is ∙ w.insert.ensures.added ∙ ap (λ s. with_event s c.loop-a.a) c.loop-a.invariant
-          ∙ one_more (length c.args.atoms.now) c.loop-a.a q c.loop-a-test.true (read ∙ (sym c.is_marked.ensures ∙ w.if-is_marked.true))
-      | else-is_marked w ↦ w.set-is ∙ c.loop-a.invariant ∙ none_more (length c.args.atoms.now) c.loop-a.a q (read ∙ (sym c.is_marked.ensures ∙ w.if-is_marked.false))
+          ∙ filled_more (length c.args.atoms.now) c.loop-a.a q (read ∙ (sym c.is_marked.ensures ∙ w.if-is_marked.true))
+      | else-is_marked w ↦ w.set-is ∙ c.loop-a.invariant ∙ filled_same (length c.args.atoms.now) c.loop-a.a q (read ∙ (sym c.is_marked.ensures ∙ w.if-is_marked.false))
     ]
 
 pub returns : goal.returns
 returns c =
     c.loop-a.invariant
-    ∙ all_tried (length c.args.atoms.now) c.loop-a.a (λ k. has_mark c.args.mark (get_or c.args.events.now (get_or c.args.atoms.now k 0) no_event)) c.loop-a-test.false
+    ∙ filled_all (length c.args.atoms.now) c.loop-a.a (λ k. has_mark c.args.mark (get_or c.args.events.now (get_or c.args.atoms.now k 0) no_event)) c.loop-a-test.false

@@ -2,7 +2,7 @@ use Rattle.std.proofs.Common.{◌∙◌, ap}
 use Rattle.dcr_graph.specs.Names.{number_of}
 use Rattle.dcr_nest.specs.Nest.{Nest}
 use Rattle.dcr_cover.specs.Told.{node_named}
-use Rattle.dcr_cover.proofs.IndexLemmas.{place_is}
+use Rattle.dcr_graph.proofs.NamesLemmas.{place_is}
 use Rattle.dcr_cover.proofs.index.Index.find.Goals as goal
 
 pub returns-in_default : goal.returns-in_default

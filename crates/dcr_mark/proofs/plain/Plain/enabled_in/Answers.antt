@@ -2,9 +2,9 @@ use Rattle.std.proofs.Common.{◌≡◌, true, false, not, ◌&&◌, length, sym
 use Rattle.std.specs.Option.{is_none}
 use Rattle.dcr_set.specs.EventSet.{has, no_event, with_event}
 use Rattle.dcr_graph.specs.GraphValue.{rules_of}
-use Rattle.dcr_graph.specs.Cause.{cause}
+use Rattle.dcr_graph.specs.Cause.{cause, is_enabled_in}
 use Rattle.dcr_graph.proofs.BoolLemmas.{and_false}
-use Rattle.dcr_mark.proofs.PlainLemmas.{is_enabled_in, filled_none, filled_more, filled_same, filled_all}
+use Rattle.dcr_set.proofs.ToldLemmas.{filled_none, filled_more, filled_same, filled_all}
 use Rattle.dcr_mark.proofs.plain.Plain.enabled_in.Goals as goal
 use Rattle.dcr_mark.proofs.plain.Plain.enabled_in.Goals.{then-contains+then-is_none, else-contains, else-contains-via-then-contains+else-is_none, else-contains-via-else-contains}
 
@@ -15,13 +15,13 @@ loop-number-init c =
     record {
       atoms = atoms;
       room = c.new-enabled.ensures.room ∙ atoms;
-      enabled = c.new-enabled.ensures.empty ∙ ap no_event atoms ∙ filled_none n (is_enabled_in at.graph at.marking c.args.events.now);
+      enabled = c.new-enabled.ensures.empty ∙ ap no_event atoms ∙ filled_none n (is_enabled_in (rules_of at.graph) c.args.events.now at.marking);
     }
 
 pub loop-number-preserved : goal.loop-number-preserved
 loop-number-preserved c =
     let at = c.args.self.now in let n = length at.graph.names in let i = c.loop-number.number in let before = c.loop-number.invariant in
-    let p = is_enabled_in at.graph at.marking c.args.events.now in
+    let p = is_enabled_in (rules_of at.graph) c.args.events.now at.marking in
     elim c.if-contains.branch [
       | then-contains+then-is_none w ↦
           let member : has c.args.events.now i ≡ true = sym c.contains.ensures ∙ w.if-contains.true in
@@ -49,4 +49,4 @@ pub returns-clause-enabled : goal.returns-clause-enabled
 returns-clause-enabled c =
     let at = c.args.self.now in
     c.loop-number.invariant.enabled
-    ∙ filled_all (length at.graph.names) c.loop-number.number (is_enabled_in at.graph at.marking c.args.events.now) (let same = c.loop-number.invariant.atoms in omega arith)
+    ∙ filled_all (length at.graph.names) c.loop-number.number (is_enabled_in (rules_of at.graph) c.args.events.now at.marking) (let same = c.loop-number.invariant.atoms in omega arith)

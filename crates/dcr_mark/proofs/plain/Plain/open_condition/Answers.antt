@@ -4,7 +4,7 @@ use Rattle.dcr_set.specs.EventSet.{has}
 use Rattle.dcr_graph.specs.GraphValue.{rules_of}
 use Rattle.dcr_graph.specs.Cause.{is_open_condition}
 use Rattle.dcr_graph.specs.declared.kind.Kind.TheVariants.{Condition}
-use Rattle.dcr_mark.proofs.PlainLemmas.{least_told}
+use Rattle.dcr_set.proofs.ToldLemmas.{least_told}
 use Rattle.dcr_mark.proofs.plain.Plain.open_condition.Goals as goal
 
 pub returns : goal.returns

@@ -1,6 +1,6 @@
 use Rattle.std.proofs.Common.{◌∙◌, ap}
 use Rattle.dcr_graph.specs.Names.{number_of}
-use Rattle.dcr_nodes.proofs.NameLemmas.{place_is}
+use Rattle.dcr_graph.proofs.NamesLemmas.{place_is}
 use Rattle.dcr_nodes.proofs.names.Names.find.Goals as goal
 
 pub returns-in_default : goal.returns-in_default
