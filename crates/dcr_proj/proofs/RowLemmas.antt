@@ -1,76 +1,12 @@
--- Sets that are told by tests: cut, joined, and filled one number after another.
-use Rattle.std.proofs.Common.{◌≡◌, ℕ, ◌+◌, ◌<◌, ◌≤◌, Bool, true, false, not, ◌&&◌, ◌||◌, eqb, ltb, List, [], ◌∷◌, ◌++◌, length, get_or, cond, Option, Some, None, is_some, inl, inr, sym, ap, ◌∙◌, arith}
+-- Lists of rows: one row more, and the row that stands at a place.
+use Rattle.std.proofs.Common.{◌≡◌, ℕ, ◌+◌, ◌<◌, Bool, List, [], ◌∷◌, ◌++◌, length, get_or, cond, Option, Some, None, inl, inr, sym, ap, ◌∙◌, arith}
 use Rattle.std.specs.Option.{option_map}
 use Rattle.std.specs.declared.alloc.Global.{Global}
 use Rattle.std.specs.declared.boxed.Box.{Box}
 use Rattle.std.proofs.lemmas.List.{map_push, ext_get_or, get_or-map, get_or_past, get_or_read, length-map}
 use Rattle.std.proofs.lemmas.List.FromFn.{length-map-range_with_len, get_or-map-range_with_len, map-range_with_len_more}
 use Rattle.dcr_proj.specs.Rows.{row_where, rows_where, unboxed}
-use Rattle.std.proofs.lemmas.Bool.{cases_lt, cases_order, eq-eqb, ne_eqb, lt-ltb, le-ltb}
-use Rattle.dcr_set.specs.Least.{some_below}
-use Rattle.dcr_set.specs.EventSet.{Set, has, those, no_event, with_event, union, difference, intersection, share}
-use Rattle.dcr_set.proofs.LeastLemmas.{least-ext}
-use Rattle.dcr_set.proofs.SetLemmas.{has-those, length-those, those-ext}
-use Rattle.dcr_graph.proofs.BoolLemmas.{and_true, and_false}
-
-pub intersection-those : (n : ℕ) (p : ℕ → Bool) (t : Set) → intersection (those n p) t ≡ those n (λ k. p k && has t k)
-intersection-those n p t =
-    ap (λ m. those m (λ k. has (those n p) k && has t k)) (length-those n p)
-    ∙ those-ext n (λ k. has (those n p) k && has t k) (λ k. p k && has t k) (λ k below. ap (λ b. b && has t k) (has-those n p k below))
-
-pub union-those : (n : ℕ) (p q : ℕ → Bool) → union (those n p) (those n q) ≡ those n (λ k. p k || q k)
-union-those n p q =
-    ap (λ m. those m (λ k. has (those n p) k || has (those n q) k)) (length-those n p)
-    ∙ those-ext n (λ k. has (those n p) k || has (those n q) k) (λ k. p k || q k) (λ k below.
-    ap (λ b. b || has (those n q) k) (has-those n p k below) ∙ ap (λ b. p k || b) (has-those n q k below))
-
-pub difference-those : (n : ℕ) (p q : ℕ → Bool) → difference (those n p) (those n q) ≡ those n (λ k. p k && not (q k))
-difference-those n p q =
-    ap (λ m. those m (λ k. has (those n p) k && not (has (those n q) k))) (length-those n p)
-    ∙ those-ext n (λ k. has (those n p) k && not (has (those n q) k)) (λ k. p k && not (q k)) (λ k below.
-    ap (λ b. b && not (has (those n q) k)) (has-those n p k below) ∙ ap (λ b. p k && not b) (has-those n q k below))
-
--- a set with one room that shares a number with what passes
-pub share-those : (t : Set) (n : ℕ) (p : ℕ → Bool) → length t ≡ n → share t (those n p) ≡ some_below n (λ k. has t k && p k)
-share-those t n p room =
-    ap (λ m. some_below m (λ k. has t k && has (those n p) k)) room
-    ∙ ap is_some (least-ext n (λ k. has t k && has (those n p) k) (λ k. has t k && p k) (λ k below. ap (λ b. has t k && b) (has-those n p k below)))
-
--- what passes, of the numbers below i
-abbrev pub filled : ℕ → (ℕ → Bool) → ℕ → Set
-filled n p i = those n (λ k. p k && ltb k i)
-
-pub filled_none : (n : ℕ) (p : ℕ → Bool) → no_event n ≡ filled n p 0
-filled_none n p = those-ext n (λ _. false) (λ k. p k && ltb k 0) (λ k below. sym (ap (λ b. p k && b) (le-ltb k 0 (omega arith)) ∙ and_false (p k)))
-
-pub filled_all : (n i : ℕ) (p : ℕ → Bool) → n ≤ i → filled n p i ≡ those n p
-filled_all n i p all = those-ext n (λ k. p k && ltb k i) p (λ k below. ap (λ b. p k && b) (lt-ltb k i (omega arith)) ∙ and_true (p k))
-
--- the number at i passes, and is added
-pub filled_more : (n i : ℕ) (p : ℕ → Bool) → p i ≡ true → with_event (filled n p i) i ≡ filled n p (i + 1)
-filled_more n i p passes =
-    ap (λ m. those m (λ k. eqb k i || has (filled n p i) k)) (length-those n (λ k. p k && ltb k i))
-    ∙ those-ext n (λ k. eqb k i || has (filled n p i) k) (λ k. p k && ltb k (i + 1)) (λ k below.
-    ap (λ b. eqb k i || b) (has-those n (λ j. p j && ltb j i) k below) ∙ elim (cases_order k i) [
-      | inl same ↦ ap (λ b. b || (p k && ltb k i)) (eq-eqb k i same) ∙ sym (ap (λ b. b && ltb k (i + 1)) (ap p same ∙ passes) ∙ lt-ltb k (i + 1) (omega arith))
-      | inr (inl before) ↦ ap (λ b. b || (p k && ltb k i)) (ne_eqb k i (λ same. absurd (omega arith))) ∙ ap (λ b. p k && b) (lt-ltb k i before ∙ sym (lt-ltb k (i + 1) (omega arith)))
-      | inr (inr after) ↦ ap (λ b. b || (p k && ltb k i)) (ne_eqb k i (λ same. absurd (omega arith))) ∙ ap (λ b. p k && b) (le-ltb k i (omega arith) ∙ sym (le-ltb k (i + 1) (omega arith)))
-    ])
-
--- the number at i doesn't pass
-pub filled_same : (n i : ℕ) (p : ℕ → Bool) → p i ≡ false → filled n p i ≡ filled n p (i + 1)
-filled_same n i p fails = those-ext n (λ k. p k && ltb k i) (λ k. p k && ltb k (i + 1)) (λ k below. elim (cases_order k i) [
-  | inl same ↦ ap (λ b. b && ltb k i) (ap p same ∙ fails) ∙ sym (ap (λ b. b && ltb k (i + 1)) (ap p same ∙ fails))
-  | inr (inl before) ↦ ap (λ b. p k && b) (lt-ltb k i before ∙ sym (lt-ltb k (i + 1) (omega arith)))
-  | inr (inr after) ↦ ap (λ b. p k && b) (le-ltb k i (omega arith) ∙ sym (le-ltb k (i + 1) (omega arith)))
-])
-
-pub union_set-those : (s : Set) (n : ℕ) (q : ℕ → Bool) → length s ≡ n → union s (those n q) ≡ those n (λ k. has s k || q k)
-union_set-those s n q room =
-    ap (λ m. those m (λ k. has s k || has (those n q) k)) room
-    ∙ those-ext n (λ k. has s k || has (those n q) k) (λ k. has s k || q k) (λ k below. ap (λ b. has s k || b) (has-those n q k below))
-
--- ---- lists of rows
+use Rattle.std.proofs.lemmas.Bool.{cases_lt}
 
 -- one row more
 pub rows_more : {A : Type 0} (rows : List (Option (Box A Global))) (row : Option (Box A Global)) (n : ℕ) (test : ℕ → Bool) (row_of : ℕ → A)

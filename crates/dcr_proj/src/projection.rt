@@ -1,10 +1,10 @@
 ghost use Rattle.std.specs.Prelude.{◌≡◌, length, IfOk};
-ghost use Rattle.dcr_set.specs.EventSet.{those, union};
+ghost use Rattle.dcr_set.specs.EventSet.{those};
 ghost use Rattle.dcr_graph.specs.GraphValue.{rules_of};
 ghost use Rattle.dcr_proj.specs.Local.{projection_of};
 ghost use Rattle.dcr_proj.specs.Alphabet.{alphabet_within};
 
-use crate::rows::{Effects, Guards, sources_into};
+use crate::rows::{Effects, Guards};
 use dcr_graph::{Graph, Kind, Marking, SiteMark};
 use dcr_set::{EventId, EventSet, NoMemory};
 use std::alloc::Global;
@@ -153,15 +153,11 @@ impl Projection {
         ensures cut { result ≡ cut_to self.now marking.now }
         ensures rooms { IsLocal self.now }
     {
-        let mut mark = SiteMark {
-            executed: marking.executed.copy(),
-            pending: marking.pending.copy(),
-            included: marking.included.copy(),
-        };
-        mark.executed.keep_with(&self.tracked_ex);
-        mark.pending.keep_with(&self.tracked_re);
-        mark.included.keep_with(&self.tracked_in);
-        mark
+        SiteMark {
+            executed: marking.executed.common(&self.tracked_ex),
+            pending: marking.pending.common(&self.tracked_re),
+            included: marking.included.common(&self.tracked_in),
+        }
     }
 }
 
@@ -170,11 +166,11 @@ pub fn project(alloc: Global, graph: &Graph, own: &EventSet) -> Result<Projectio
     requires { length own.now ≡ length graph.now.names }
     ensures { IfOk result (λ projection. projection ≡ projection_of (rules_of graph.now) own.now) }
 {
-    let conditions = sources_into(graph, Kind::Condition, own);
-    let milestones = sources_into(graph, Kind::Milestone, own);
-    let tracked_ex = joined(own, &conditions);
-    let tracked_re = joined(own, &milestones);
-    let tracked_in = joined(own, &joined(&conditions, &milestones));
+    let conditions = graph.sources_into(Kind::Condition, own);
+    let milestones = graph.sources_into(Kind::Milestone, own);
+    let tracked_ex = own.joined(&conditions);
+    let tracked_re = own.joined(&milestones);
+    let tracked_in = own.joined(&conditions.joined(&milestones));
     let alphabet = alphabet_of(graph, &tracked_in, &tracked_re);
     let guards = Guards::of_each(alloc, graph, own)?;
     let effects = Effects::of_each(alloc, graph, &tracked_in, &tracked_re, &alphabet)?;
@@ -196,24 +192,11 @@ fn alphabet_of(graph: &Graph, tracked_in: &EventSet, tracked_re: &EventSet) -> E
     ensures alphabet { result ≡ those (length graph.now.names) (alphabet_within (rules_of graph.now) tracked_in.now tracked_re.now) }
     ensures room { length result ≡ length graph.now.names }
 {
-    let pending = joined(
-        &sources_into(graph, Kind::Response, tracked_re),
-        &sources_into(graph, Kind::Cancel, tracked_re),
-    );
-    let included = joined(
-        &sources_into(graph, Kind::Include, tracked_in),
-        &sources_into(graph, Kind::Exclude, tracked_in),
-    );
-    joined(tracked_in, &joined(&pending, &included))
-}
-
-// The events of both sets.
-fn joined(one: &EventSet, other: &EventSet) -> EventSet
-    requires { length one.now ≡ length other.now }
-    ensures union { result ≡ union one.now other.now }
-    ensures room { length result ≡ length one.now }
-{
-    let mut all = one.copy();
-    all.union_with(other);
-    all
+    let responses = graph.sources_into(Kind::Response, tracked_re);
+    let cancels = graph.sources_into(Kind::Cancel, tracked_re);
+    let includes = graph.sources_into(Kind::Include, tracked_in);
+    let excludes = graph.sources_into(Kind::Exclude, tracked_in);
+    let pending = responses.joined(&cancels);
+    let included = includes.joined(&excludes);
+    tracked_in.joined(&pending.joined(&included))
 }

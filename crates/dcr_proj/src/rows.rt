@@ -2,7 +2,6 @@ ghost use Rattle.std.specs.Prelude.{◌≡◌, ◌<◌, ◌&&◌, length, IfOk, 
 ghost use Rattle.dcr_set.specs.EventSet.{has, those};
 ghost use Rattle.dcr_graph.specs.GraphValue.{rules_of};
 ghost use Rattle.dcr_graph.specs.declared.kind.Kind.{Kind};
-ghost use Rattle.dcr_graph.specs.Projection.{leads_to};
 
 use dcr_graph::{Graph, Kind};
 use dcr_set::{EventId, EventSet, NoMemory};
@@ -140,23 +139,5 @@ fn cut_targets(graph: &Graph, kind: Kind, e: EventId, within: &EventSet) -> Even
     requires room { length within.now ≡ length graph.now.names }
     ensures { result ≡ those (length graph.now.names) (λ b. (rules_of graph.now).related kind e b && has within.now b) }
 {
-    let mut cut = graph.targets(kind, e).copy();
-    cut.keep_with(within);
-    cut
-}
-
-/// The atoms that are related by the kind to one of these.
-pub fn sources_into(graph: &Graph, kind: Kind, targets: &EventSet) -> EventSet
-    requires { length targets.now ≡ length graph.now.names }
-    ensures sources { result ≡ those (length graph.now.names) (leads_to (rules_of graph.now) kind (has targets.now)) }
-    ensures room { length result ≡ length graph.now.names }
-{
-    let mut sources = EventSet::new(graph.atoms());
-    for number in 0..graph.atoms() {
-        let e = EventId(number);
-        if targets.meets(graph.targets(kind, e)) {
-            sources.insert(e);
-        }
-    }
-    sources
+    graph.targets(kind, e).common(within)
 }

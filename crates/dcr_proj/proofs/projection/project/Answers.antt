@@ -7,7 +7,7 @@ use Rattle.dcr_proj.specs.Rows.{rows_where, effects_within}
 use Rattle.dcr_proj.specs.Alphabet.{alphabet_within}
 use Rattle.dcr_proj.specs.Local.{projection_of}
 use Rattle.dcr_proj.specs.ProjectionModel.{IsLocal, local_of}
-use Rattle.dcr_proj.proofs.RowLemmas.{union-those, union_set-those}
+use Rattle.dcr_set.proofs.ToldLemmas.{union-those, union_set-those}
 use Rattle.dcr_proj.proofs.ProjectionLemmas.{same_local, projection_fits, alphabet_is, effect_rows_are}
 use Rattle.dcr_proj.proofs.projection.project.Goals as goal
 use Rattle.dcr_proj.proofs.projection.project.Goals.{After-copy}
@@ -24,12 +24,12 @@ made : (c : After-copy) → local_of (record {
 made c =
     let G = rules_of c.args.graph.now in let S = c.args.own.now in
     let tracked_ex : c.joined-tracked_ex.result ≡ those G.atoms (tracks_executed G S) =
-    c.joined-tracked_ex.ensures.union ∙ ap (union S) c.sources_into-conditions.ensures.sources ∙ union_set-those S G.atoms (leads_to G Condition (has S)) c.requires in
+    c.joined-tracked_ex.ensures.joined ∙ ap (union S) c.sources_into-conditions.ensures.sources ∙ union_set-those S G.atoms (leads_to G Condition (has S)) c.requires in
     let tracked_re : c.joined-tracked_re.result ≡ those G.atoms (tracks_pending G S) =
-    c.joined-tracked_re.ensures.union ∙ ap (union S) c.sources_into-milestones.ensures.sources ∙ union_set-those S G.atoms (leads_to G Milestone (has S)) c.requires in
+    c.joined-tracked_re.ensures.joined ∙ ap (union S) c.sources_into-milestones.ensures.sources ∙ union_set-those S G.atoms (leads_to G Milestone (has S)) c.requires in
     let tracked_in : c.joined-tracked_in.result ≡ those G.atoms (tracks_included G S) =
-    c.joined-tracked_in.ensures.union
-    ∙ ap (union S) (c.joined.ensures.union ∙ ap (λ s. union s c.sources_into-milestones.result) c.sources_into-conditions.ensures.sources
+    c.joined-tracked_in.ensures.joined
+    ∙ ap (union S) (c.joined.ensures.joined ∙ ap (λ s. union s c.sources_into-milestones.result) c.sources_into-conditions.ensures.sources
     ∙ ap (union (those G.atoms (leads_to G Condition (has S)))) c.sources_into-milestones.ensures.sources ∙ union-those G.atoms (leads_to G Condition (has S)) (leads_to G Milestone (has S)))
     ∙ union_set-those S G.atoms (λ k. leads_to G Condition (has S) k || leads_to G Milestone (has S) k) c.requires in
     let alphabet : c.alphabet_of-alphabet.result ≡ those G.atoms (in_alphabet G S) =

@@ -1,9 +1,7 @@
 use Rattle.std.proofs.Common.{◌∙◌, ap}
 use Rattle.dcr_set.specs.EventSet.{intersection}
-use Rattle.dcr_proj.proofs.RowLemmas.{intersection-those}
+use Rattle.dcr_set.proofs.ToldLemmas.{intersection-those}
 use Rattle.dcr_proj.proofs.rows.cut_targets.Goals as goal
 
 pub returns : goal.returns
-returns c =
-    c.keep_with.ensures.kept ∙ ap (λ s. intersection s c.args.within.now) (c.copy-cut.ensures ∙ c.targets.ensures.targets)
-    ∙ intersection-those _ _ c.args.within.now
+returns c = c.common.ensures.common ∙ ap (λ s. intersection s c.args.within.now) c.targets.ensures.targets ∙ intersection-those _ _ c.args.within.now

@@ -1,7 +1,6 @@
 use Rattle.std.proofs.Common.{refl, sym, ap, ◌∙◌}
 use Rattle.dcr_set.specs.EventSet.{those}
 use Rattle.dcr_graph.specs.Projection.{local_rules}
-use Rattle.dcr_graph.specs.Rules.{Rules}
 use Rattle.dcr_graph.specs.declared.kind.Kind.TheVariants.{Condition, Milestone}
 use Rattle.dcr_proj.proofs.ProjectionLemmas.{kept_guards, kept_sources}
 use Rattle.dcr_proj.proofs.projection.Projection.sources.Goals as goal
