@@ -24,6 +24,10 @@ HaveOneRoom sets = All (λ set. length set ≡ atoms_of sets) sets
 abbrev pub is_owned : List Set → ℕ → Bool
 is_owned owned atom = list_any (λ set. has set atom) owned
 
+-- each atom below that number is owned by one of the sites
+abbrev pub IsCovered : ℕ → List Set → Type 0
+IsCovered atoms owned = (atom : ℕ) → atom < atoms → is_owned owned atom ≡ true
+
 -- 1 to 64 sites with distinct names and one set each, and each atom is owned
 pub record IsCover (cover : Owners) : Type 0 where
   pub some_site : 1 ≤ length cover.names
@@ -31,4 +35,4 @@ pub record IsCover (cover : Owners) : Type 0 where
   pub as_many : length cover.owned ≡ length cover.names
   pub distinct : AreDistinct cover.names
   pub rooms : HaveOneRoom cover.owned
-  pub covered : (atom : ℕ) → atom < atoms_of cover.owned → is_owned cover.owned atom ≡ true
+  pub covered : IsCovered (atoms_of cover.owned) cover.owned

@@ -2,9 +2,10 @@
 use Rattle.std.proofs.Common.{◌≡◌, ℕ, ◌<◌, Bool, true, false, not, ◌&&◌, ◌||◌, eqb, cond, length, get_or, Option, Some, None, refl, sym, ap, subst, ◌∙◌, arith}
 use Rattle.std.proofs.lemmas.Bool.{eqb-true, or_left}
 use Rattle.dcr_set.specs.Least.{least}
-use Rattle.dcr_set.specs.EventSet.{Set, has, those, with_event, without_event, union, difference, intersection, first_in_both_without, first_in_three}
+use Rattle.dcr_set.specs.EventSet.{Set, has, those, with_event, without_event, union, difference, first_in_both_without, first_in_three}
 use Rattle.dcr_set.proofs.LeastLemmas.{least-ext}
 use Rattle.dcr_set.proofs.SetLemmas.{has-those, length-those, those-ext, those-has}
+use Rattle.dcr_set.proofs.ToldLemmas.{union-those, union_set-those, difference-those, intersection_set-those}
 use Rattle.dcr_graph.specs.Rules.{Rules}
 use Rattle.dcr_graph.specs.Cause.{cause, first_block, is_open_condition, is_pending_milestone}
 use Rattle.dcr_graph.specs.Step.{step}
@@ -24,7 +25,7 @@ use Rattle.dcr_proj.specs.declared.rows.Guards.{Guards}
 use Rattle.dcr_proj.specs.declared.rows.Effects.{Effects}
 use Rattle.dcr_site.specs.declared.site.Decision.TheVariants.{NotHere, Blocked}
 use Rattle.dcr_site.specs.MarksAfter.{marks_after}
-use Rattle.dcr_proj.proofs.RowLemmas.{row_at, union-those, union_set-those, difference-those}
+use Rattle.dcr_proj.proofs.RowLemmas.{row_at}
 use Rattle.dcr_proj.proofs.ProjectionLemmas.{below_room}
 
 -- ---- deciding
@@ -155,12 +156,10 @@ waits_by_marks G S M site at room =
 
 -- the marks that a projection cuts out of a marking
 pub cut_is : (G : Rules) (S : Set) (M : Marking) → HasRoom G.atoms M → cut_to (projection_of G S) M ≡ project G S M
-cut_is G S M room = same_marks _ _ _ _ _ _ (cut M.executed (tracks_executed G S) room.executed) (cut M.pending (tracks_pending G S) room.pending) (cut M.included (tracks_included G S) room.included)
-  where
-    cut : (t : Set) (p : ℕ → Bool) → length t ≡ G.atoms → intersection t (those G.atoms p) ≡ those G.atoms (λ k. has t k && p k)
-    cut t p len =
-        ap (λ n. those n (λ k. has t k && has (those G.atoms p) k)) len
-        ∙ those-ext G.atoms (λ k. has t k && has (those G.atoms p) k) (λ k. has t k && p k) (λ k below. ap (λ b. has t k && b) (has-those G.atoms p k below))
+cut_is G S M room = same_marks _ _ _ _ _ _
+    (intersection_set-those M.executed G.atoms (tracks_executed G S) room.executed)
+    (intersection_set-those M.pending G.atoms (tracks_pending G S) room.pending)
+    (intersection_set-those M.included G.atoms (tracks_included G S) room.included)
 
 pub stands_open : (G : Rules) (S : Set) (M : Marking) (P : Local) (mark : SiteMark) → P ≡ projection_of G S → length P.tracked_in ≡ length P.own → HasRoom (length P.own) M
     → mark ≡ cut_to P M → StandsAt G S M (record { projection = P; mark = mark })

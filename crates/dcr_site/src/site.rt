@@ -39,17 +39,17 @@ impl Model for Site {
 }
 
 impl Site {
-    ghost use Rattle.std.specs.Prelude.{◌≡◌, ◌<◌, ◌≤◌, ◌&&◌, List, Bool, ℕ, true, length, is_none};
+    ghost use Rattle.std.specs.Prelude.{◌≡◌, ◌<◌, ◌≤◌, List, Bool, ℕ, true, length};
     ghost use Rattle.dcr_set.specs.EventSet.{has};
     ghost use Rattle.dcr_set.specs.declared.id.TheConstants.{MAX_ATOMS};
     ghost use Rattle.dcr_graph.specs.Rules.{Rules};
-    ghost use Rattle.dcr_graph.specs.Cause.{cause};
+    ghost use Rattle.dcr_graph.specs.Cause.{enabled_in, is_enabled_in};
     ghost use Rattle.dcr_graph.specs.Step.{step};
     ghost use Rattle.dcr_graph.specs.Projection.{HasRoom};
     ghost use Rattle.dcr_graph.specs.declared.marking.Marking.{Marking as Marks};
     ghost use Rattle.dcr_proj.specs.Local.{cut_to, projection_of};
     ghost use Rattle.dcr_site.specs.Seen.{StandsAt};
-    ghost use Rattle.dcr_site.specs.Decision.{decision, owned_enabled, owned_waits};
+    ghost use Rattle.dcr_site.specs.Decision.{decision, owned_waits};
 
     /// The site with this projection, whose marks are those of a marking over as many atoms. Where the
     /// projection is that of a graph to an owned set, the site stands at that marking.
@@ -110,7 +110,7 @@ impl Site {
 
     /// The owned events that may be executed, in a set with the room of the projection. Takes no memory.
     pub fn can(&self) -> EventSet
-        ensures enabled { (G : Rules) (S : List Bool) (M : Marks) → StandsAt G S M self.now → result ≡ owned_enabled G S M }
+        ensures enabled { (G : Rules) (S : List Bool) (M : Marks) → StandsAt G S M self.now → result ≡ enabled_in G S M }
         ensures room { length result ≡ length self.now.projection.own }
     {
         let atoms = self.atoms();
@@ -136,7 +136,7 @@ impl Site {
     // Whether the event, which is an atom, is owned and may be executed.
     fn enables(&self, e: EventId) -> bool
         requires { e < length self.now.projection.own }
-        ensures { (G : Rules) (S : List Bool) (M : Marks) → StandsAt G S M self.now → result ≡ (has S e && is_none (cause G M e)) }
+        ensures { (G : Rules) (S : List Bool) (M : Marks) → StandsAt G S M self.now → result ≡ is_enabled_in G S M e }
     {
         matches!(self.decide(e), Decision::Enabled)
     }

@@ -1,15 +1,13 @@
-use Rattle.std.proofs.Common.{◌≡◌, ◌&&◌, List, Bool, length}
-use Rattle.std.specs.Option.{is_none}
-use Rattle.dcr_set.specs.EventSet.{has}
+use Rattle.std.proofs.Common.{◌≡◌, List, Bool, length}
 use Rattle.dcr_graph.specs.Rules.{Rules}
-use Rattle.dcr_graph.specs.Cause.{cause}
+use Rattle.dcr_graph.specs.Cause.{is_enabled_in}
 use Rattle.dcr_graph.specs.declared.marking.Marking.{Marking}
-use Rattle.dcr_proj.proofs.RowLemmas.{filled}
+use Rattle.dcr_set.proofs.ToldLemmas.{filled}
 use Rattle.dcr_site.specs.Seen.{StandsAt}
 use Rattle.dcr_site.proofs.site.Site.can.Given as goal
 
 abbrev pub invariant-loop-number : goal.invariant-loop-number
 invariant-loop-number l = record {
   room : length l.can ≡ length l.self.projection.own;
-  enabled : (G : Rules) (S : List Bool) (M : Marking) → StandsAt G S M l.self → l.can ≡ filled G.atoms (λ a. has S a && is_none (cause G M a)) l.number;
+  enabled : (G : Rules) (S : List Bool) (M : Marking) → StandsAt G S M l.self → l.can ≡ filled G.atoms (is_enabled_in G S M) l.number;
 }
