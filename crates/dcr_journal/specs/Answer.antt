@@ -1,9 +1,9 @@
 -- What the graph answers to a call at a marking.
-use Rattle.std.specs.Prelude.{ℕ, ◌&&◌, List, Option, Some, None, is_none, if◌then◌else◌}
-use Rattle.dcr_set.specs.EventSet.{Set, has, those}
+use Rattle.std.specs.Prelude.{ℕ, List, Option, Some, None, if◌then◌else◌}
+use Rattle.dcr_set.specs.EventSet.{Set, has}
 use Rattle.dcr_graph.specs.Rules.{Rules}
 use Rattle.dcr_graph.specs.Rows.{row}
-use Rattle.dcr_graph.specs.Cause.{cause, waits}
+use Rattle.dcr_graph.specs.Cause.{cause, enabled_in, waits}
 use Rattle.dcr_graph.specs.Projection.{project}
 use Rattle.dcr_graph.specs.declared.kind.Cause.{Cause}
 use Rattle.dcr_graph.specs.declared.kind.Cause.TheVariants as why
@@ -19,10 +19,6 @@ outcome_of None = Done
 outcome_of (Some why.Excluded) = Excluded
 outcome_of (Some (why.Condition c)) = Condition c
 outcome_of (Some (why.Milestone m)) = Milestone m
-
--- the enabled atoms of an owned set: those that no cause blocks
-abbrev pub enabled_in : Rules → Set → Marking → Set
-enabled_in G S M = those G.atoms (λ a. has S a && is_none (cause G M a))
 
 -- the verdict: the atom that is waited for, or all done where there is none
 abbrev pub verdict_of : Option ℕ → Outcome

@@ -1,4 +1,4 @@
-use dcr_graph::SiteMark;
+use dcr_graph::{Cause, SiteMark};
 use dcr_set::{EventId, EventSet, SiteId};
 
 /// What a session asks.
@@ -39,6 +39,33 @@ pub enum Outcome {
     AllDone,
     /// The least event that is included and pending.
     Waits(EventId),
+}
+
+impl Outcome {
+    ghost use Rattle.std.specs.Prelude.{◌≡◌};
+    ghost use Rattle.dcr_journal.specs.Answer.{outcome_of, verdict_of};
+
+    /// What an execution that this cause blocks is answered, or one that no cause blocks.
+    pub fn of_cause(cause: Option<Cause>) -> Outcome
+        ensures { result ≡ outcome_of cause }
+    {
+        match cause {
+            None => Outcome::Done,
+            Some(Cause::Excluded) => Outcome::Excluded,
+            Some(Cause::Condition(EventId(c))) => Outcome::Condition(EventId(c)),
+            Some(Cause::Milestone(EventId(m))) => Outcome::Milestone(EventId(m)),
+        }
+    }
+
+    /// What the question whether the marking is accepting is answered, where it waits for this event, or for none.
+    pub fn verdict(waits: Option<EventId>) -> Outcome
+        ensures { result ≡ verdict_of waits }
+    {
+        match waits {
+            None => Outcome::AllDone,
+            Some(e) => Outcome::Waits(e),
+        }
+    }
 }
 
 /// One call in the journal. Its place there is its number in the one order of all calls.

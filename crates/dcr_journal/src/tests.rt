@@ -1,6 +1,6 @@
 // Worked rows: that each call can succeed, and what it answers at known values.
 use crate::{Call, CallList, Closed, Entry, Journal, MarkList, Outcome};
-use dcr_graph::{Marking, SiteMark};
+use dcr_graph::{Cause, Marking, SiteMark};
 use dcr_pool::Block;
 use dcr_set::{EventId, EventSet, SiteId};
 use std::mem::size_of;
@@ -151,4 +151,25 @@ fn a_run_that_ended_is_read(rt: HostRuntime) -> Result<(), Fail> {
     }
     assert!(rt; closed.marks.get(1).is_none());
     Ok(())
+}
+
+#[test]
+fn causes_and_waiting_events_are_told(rt: HostRuntime) {
+    let e = EventId(3);
+    assert!(rt; matches!(Outcome::of_cause(None), Outcome::Done));
+    assert!(rt; matches!(Outcome::of_cause(Some(Cause::Excluded)), Outcome::Excluded));
+    assert!(rt;
+        matches!(
+            Outcome::of_cause(Some(Cause::Condition(e))),
+            Outcome::Condition(EventId(3))
+        )
+    );
+    assert!(rt;
+        matches!(
+            Outcome::of_cause(Some(Cause::Milestone(e))),
+            Outcome::Milestone(EventId(3))
+        )
+    );
+    assert!(rt; matches!(Outcome::verdict(None), Outcome::AllDone));
+    assert!(rt; matches!(Outcome::verdict(Some(e)), Outcome::Waits(EventId(3))));
 }

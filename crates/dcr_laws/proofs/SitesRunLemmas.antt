@@ -9,19 +9,20 @@ use Rattle.dcr_set.specs.EventSet.{Set, has}
 use Rattle.dcr_set.proofs.SetLemmas.{those-ext}
 use Rattle.dcr_graph.specs.Rules.{Rules}
 use Rattle.dcr_graph.specs.Rows.{row}
-use Rattle.dcr_graph.specs.Cause.{cause}
+use Rattle.dcr_graph.specs.Cause.{enabled_in, cause}
 use Rattle.dcr_graph.specs.Step.{step}
 use Rattle.dcr_graph.specs.Projection.{in_alphabet, project, local_step}
 use Rattle.dcr_graph.specs.declared.marking.Marking.{Marking}
 use Rattle.dcr_graph.proofs.LocalLaws.{local_cause, local_step_is, outside_step}
-use Rattle.dcr_journal.specs.Answer.{answer, outcome_of, verdict_of, enabled_in}
+use Rattle.dcr_journal.specs.Answer.{answer, outcome_of, verdict_of}
 use Rattle.dcr_journal.specs.Run.{IsInRange, event_done, stepped_by, after, made_by, told_next, marks_at}
 use Rattle.dcr_journal.specs.declared.call.Call.{Call}
 use Rattle.dcr_journal.specs.declared.call.Call.TheVariants.{Exec, Look, Enabled, Accepting}
 use Rattle.dcr_journal.specs.declared.call.Outcome.{Outcome}
 use Rattle.dcr_journal.specs.declared.call.Outcome.TheVariants.{NotHere, Marks, Can}
 use Rattle.dcr_journal.specs.declared.call.Entry.{Entry}
-use Rattle.dcr_laws.specs.AtSites.{IsCovered, no_mark, mark_of, cause_at, enabled_at, stepped_over}
+use Rattle.dcr_proj.specs.CoverValue.{IsCovered}
+use Rattle.dcr_laws.specs.AtSites.{no_mark, mark_of, cause_at, enabled_at, stepped_over}
 use Rattle.dcr_laws.specs.SitesRun.{Run, local_answer, local_next, seen_after}
 use Rattle.dcr_laws.specs.Laws.{SitesRunAsTheGraph}
 use Rattle.dcr_laws.proofs.WaitsLemmas.{sites_wait_as_the_graph}
@@ -45,7 +46,7 @@ enabled_at-project : (G : Rules) (S : Set) (N : Marking) → enabled_at G S (pro
 enabled_at-project G S N = those-ext G.atoms (λ a. has S a && is_none (cause_at G S (project G S N) a)) (λ a. has S a && is_none (cause G N a))
     (λ a below. enabled_alike G S N a below (has S a) refl)
 
-answers_alike : (G : Rules) (C : List Set) (N : Marking) → IsCovered G C → (call : Call) → IsInRange (length C) G.atoms call
+answers_alike : (G : Rules) (C : List Set) (N : Marking) → IsCovered G.atoms C → (call : Call) → IsInRange (length C) G.atoms call
     → local_answer G C (marks_at G C N) call ≡ answer G C N call
 answers_alike G C N covered (Exec i e) (site, atom) =
     ap (λ m. cond (has (row C i) e) (outcome_of (cause_at G (row C i) m e)) NotHere) (mark_of-marks_at G C N i site)
@@ -72,7 +73,7 @@ stepped_alike : (G : Rules) (C : List Set) (N : Marking) (event : Option ℕ)
 stepped_alike G C N None = refl
 stepped_alike G C N (Some e) = sites_step G C N e
 
-next_alike : (G : Rules) (C : List Set) (M : Marking) → IsCovered G C → (J : List Entry) (asked : ℕ × Call) → IsInRange (length C) G.atoms asked.1
+next_alike : (G : Rules) (C : List Set) (M : Marking) → IsCovered G.atoms C → (J : List Entry) (asked : ℕ × Call) → IsInRange (length C) G.atoms asked.1
     → local_next G C (seen_after G C M J) asked ≡ seen_after G C M (told_next G C M J asked)
 next_alike G C M covered J asked in_range =
     let N = after G M J in
@@ -84,7 +85,7 @@ next_alike G C M covered J asked in_range =
     ∙ ap (λ ms. let r : Run = record { entries = J ++ entry o ∷ []; marks = ms } in r)
     (stepped_alike G C N (event_done asked.1 o) ∙ ap (λ X. marks_at G C X) (sym (fold_push (λ X (x : Entry). stepped_by G X x.call x.outcome) M J (entry o))))
 
-runs_alike : (G : Rules) (C : List Set) (M : Marking) → IsCovered G C → (asked : List (ℕ × Call)) (J : List Entry)
+runs_alike : (G : Rules) (C : List Set) (M : Marking) → IsCovered G.atoms C → (asked : List (ℕ × Call)) (J : List Entry)
     → All (λ (a : ℕ × Call). IsInRange (length C) G.atoms a.1) asked
     → fold (local_next G C) (seen_after G C M J) asked ≡ seen_after G C M (fold (told_next G C M) J asked)
 runs_alike G C M covered [] J in_range = refl

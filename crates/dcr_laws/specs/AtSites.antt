@@ -1,19 +1,14 @@
 -- What sites tell by their own marks. A marking of the whole graph is never read here, and the relations only as a
 -- site's projection has them: its local rules, its alphabet and what it tracks.
-use Rattle.std.specs.Prelude.{◌≡◌, ℕ, ◌<◌, true, ◌&&◌, List, [], map, fold, min, Option, Some, None, is_none, if◌then◌else◌, slice_index_or}
+use Rattle.std.specs.Prelude.{ℕ, ◌&&◌, List, [], map, fold, min, Option, Some, None, if◌then◌else◌, slice_index_or}
 use Rattle.std.specs.List.{zip}
 use Rattle.dcr_set.specs.Least.{least}
-use Rattle.dcr_set.specs.EventSet.{Set, has, those}
+use Rattle.dcr_set.specs.EventSet.{Set, has}
 use Rattle.dcr_graph.specs.Rules.{Rules}
-use Rattle.dcr_graph.specs.Cause.{cause}
+use Rattle.dcr_graph.specs.Cause.{cause, enabled_in}
 use Rattle.dcr_graph.specs.Projection.{local_rules, in_alphabet, as_marking, local_step}
 use Rattle.dcr_graph.specs.declared.kind.Cause.{Cause}
 use Rattle.dcr_graph.specs.declared.marking.SiteMark.{SiteMark}
-use Rattle.dcr_proj.specs.CoverValue.{is_owned}
-
--- each atom is owned by one of the sites
-abbrev pub IsCovered : Rules → List Set → Type 0
-IsCovered G C = (atom : ℕ) → atom < G.atoms → is_owned C atom ≡ true
 
 -- a site: the set that it owns, and its marks
 abbrev pub Site : Type 0
@@ -33,7 +28,7 @@ cause_at G S m e = cause (local_rules G S) (as_marking m) e
 
 -- the owned atoms that no such cause blocks
 abbrev pub enabled_at : Rules → Set → SiteMark → Set
-enabled_at G S m = those G.atoms (λ a. has S a && is_none (cause_at G S m a))
+enabled_at G S m = enabled_in (local_rules G S) S (as_marking m)
 
 -- the least owned atom that is included and pending by a site's marks
 abbrev pub waits_at : ℕ → Set → SiteMark → Option ℕ

@@ -13,7 +13,8 @@ use Rattle.dcr_journal.specs.declared.call.Call.{Call}
 use Rattle.dcr_journal.specs.declared.call.Call.TheVariants.{Exec}
 use Rattle.dcr_journal.specs.declared.call.Outcome.TheVariants.{Done}
 use Rattle.dcr_journal.specs.declared.call.Entry.{Entry}
-use Rattle.dcr_laws.specs.AtSites.{IsCovered, cause_at, waits_over}
+use Rattle.dcr_proj.specs.CoverValue.{IsCovered}
+use Rattle.dcr_laws.specs.AtSites.{cause_at, waits_over}
 use Rattle.dcr_laws.specs.SitesRun.{run_of_sites, run_of_graph}
 
 -- for an owned atom the cause at the site, by the projection of M, is the cause of the graph at M
@@ -30,7 +31,7 @@ OutsideNothingChanges = (G : Rules) (S : Set) (M : Marking) (e : ℕ) → in_alp
 
 -- what the graph waits for at M is the least of what the sites of a cover wait for, each by its own projection of M
 abbrev pub SitesWaitAsTheGraph : Type 0
-SitesWaitAsTheGraph = (G : Rules) (C : List Set) (M : Marking) → IsCovered G C → waits_over G.atoms C (marks_at G C M) ≡ waits G.atoms M
+SitesWaitAsTheGraph = (G : Rules) (C : List Set) (M : Marking) → IsCovered G.atoms C → waits_over G.atoms C (marks_at G C M) ≡ waits G.atoms M
 
 -- where no execution in the rest is of the alphabet, the projection after a list of entries is that after its beginning
 abbrev pub UntouchedMarksStay : Type 0
@@ -40,7 +41,7 @@ UntouchedMarksStay = (G : Rules) (S : Set) (M : Marking) (beginning rest : List 
 
 -- the run of the sites of a cover is the run of the graph: the same entries, and the marks after them are projections
 abbrev pub SitesRunAsTheGraph : Type 0
-SitesRunAsTheGraph = (G : Rules) (C : List Set) (M : Marking) (asked : List (ℕ × Call)) → IsCovered G C
+SitesRunAsTheGraph = (G : Rules) (C : List Set) (M : Marking) (asked : List (ℕ × Call)) → IsCovered G.atoms C
     → All (λ (a : ℕ × Call). IsInRange (length C) G.atoms a.1) asked → run_of_sites G C M asked ≡ run_of_graph G C M asked
 
 -- the told run has the calls of each session, in order, and no entry of another session
@@ -71,4 +72,4 @@ ARunIsDone = (G : Rules) (C : List Set) (M : Marking) (events : List ℕ) (execu
 
 -- where the owned sets cover the atoms, each list of atoms is spelled by some executions
 abbrev pub EachListIsSpelled : Type 0
-EachListIsSpelled = (G : Rules) (C : List Set) (events : List ℕ) → IsCovered G C → All (λ e. e < G.atoms) events → (executions : List (ℕ × ℕ)) × Spell C events executions
+EachListIsSpelled = (G : Rules) (C : List Set) (events : List ℕ) → IsCovered G.atoms C → All (λ e. e < G.atoms) events → (executions : List (ℕ × ℕ)) × Spell C events executions

@@ -13,12 +13,9 @@ use Rattle.dcr_graph.specs.declared.marking.Marking.{Marking}
 use Rattle.dcr_journal.specs.Run.{IsInRange, stepped_by, after, made_by, numbered, told_next, told}
 use Rattle.dcr_journal.specs.declared.call.Call.{Call}
 use Rattle.dcr_journal.specs.declared.call.Entry.{Entry}
+use Rattle.dcr_journal.proofs.RunLemmas.{after_next}
 use Rattle.dcr_site.specs.Seen.{Seen}
 use Rattle.dcr_run.specs.Engine.{AllStand}
-
--- the marking after one entry more
-pub after_next : (G : Rules) (M : Marking) (J : List Entry) (entry : Entry) → after G M (J ++ entry ∷ []) ≡ stepped_by G (after G M J) entry.call entry.outcome
-after_next G M J entry = fold-append (λ N (e : Entry). stepped_by G N e.call e.outcome) M J (entry ∷ [])
 
 pub stand_next : (G : Rules) (C : List Set) (M : Marking) (J entries : List Entry) (entry : Entry) (sites : List Seen) → entries ≡ J ++ entry ∷ []
     → AllStand G C (stepped_by G (after G M J) entry.call entry.outcome) sites → AllStand G C (after G M entries) sites

@@ -28,7 +28,8 @@ use Rattle.dcr_site.proofs.SiteLemmas.{unheard}
 use Rattle.dcr_site.specs.Seen.{Seen, StandsAt}
 use Rattle.dcr_site.specs.Decision.{owned_waits}
 use Rattle.dcr_run.specs.SitesModel.{alphabets_in}
-use Rattle.dcr_laws.specs.AtSites.{IsCovered, lesser}
+use Rattle.dcr_proj.specs.CoverValue.{IsCovered}
+use Rattle.dcr_laws.specs.AtSites.{lesser}
 use Rattle.dcr_laws.proofs.WaitsLemmas.{lesser-least}
 use Rattle.dcr_run.specs.Engine.{AllStand, IsOver, AreOver, AreOverMore, Heard, HeardEach, waits_in}
 
@@ -273,5 +274,5 @@ pub waits_all : (G : Rules) (C : List Set) (M : Marking) (i : ℕ) (first : Opti
 waits_all G C M i first all is = is ∙ ap (λ D. least G.atoms (waits_in D M)) (take_all i C all)
 
 -- where the owned sets cover all atoms, these are all that wait
-pub waits_covered : (G : Rules) (C : List Set) (M : Marking) → IsCovered G C → least G.atoms (waits_in C M) ≡ waits G.atoms M
+pub waits_covered : (G : Rules) (C : List Set) (M : Marking) → IsCovered G.atoms C → least G.atoms (waits_in C M) ≡ waits G.atoms M
 waits_covered G C M covers = least-ext G.atoms (waits_in C M) (λ a. has M.included a && has M.pending a) (λ a below. ap (λ t. t && (has M.included a && has M.pending a)) (covers a below))

@@ -1,14 +1,13 @@
 -- The sites of a run as contracts see them, and what it means that they stand together at one marking.
-use Rattle.std.specs.Prelude.{◌≡◌, ℕ, ◌<◌, Bool, ◌&&◌, List, length, slice_get, Some}
+use Rattle.std.specs.Prelude.{◌≡◌, ℕ, ◌<◌, Bool, ◌&&◌, List, length, slice_get, Some, None}
 use Rattle.dcr_set.specs.EventSet.{Set, has}
 use Rattle.dcr_graph.specs.Rules.{Rules}
 use Rattle.dcr_graph.specs.Rows.{row}
 use Rattle.dcr_graph.specs.Step.{step}
-use Rattle.dcr_graph.specs.declared.kind.Cause.TheVariants as why
 use Rattle.dcr_graph.specs.declared.marking.Marking.{Marking}
 use Rattle.dcr_proj.specs.CoverValue.{is_owned}
+use Rattle.dcr_journal.specs.Answer.{outcome_of}
 use Rattle.dcr_journal.specs.declared.call.Outcome.{Outcome}
-use Rattle.dcr_journal.specs.declared.call.Outcome.TheVariants.{Done, Excluded, Condition, Milestone}
 use Rattle.dcr_journal.specs.declared.call.Outcome.TheVariants as outcome
 use Rattle.dcr_site.specs.Seen.{Seen, StandsAt}
 use Rattle.dcr_site.specs.declared.site.Decision.{Decision}
@@ -52,7 +51,5 @@ waits_in C M a = is_owned C a && (has M.included a && has M.pending a)
 -- the outcome that tells a decision, where the event is executed if it is enabled
 abbrev pub told_by : Decision → Outcome
 told_by NotHere = outcome.NotHere
-told_by Enabled = Done
-told_by (Blocked why.Excluded) = Excluded
-told_by (Blocked (why.Condition c)) = Condition c
-told_by (Blocked (why.Milestone m)) = Milestone m
+told_by Enabled = outcome_of None
+told_by (Blocked why) = outcome_of (Some why)

@@ -4,7 +4,7 @@ ghost use Rattle.dcr_set.specs.EventSet.{Set};
 ghost use Rattle.dcr_graph.specs.Rules.{Rules};
 ghost use Rattle.dcr_graph.specs.declared.marking.Marking.{Marking as Marks};
 ghost use Rattle.dcr_journal.specs.Run.{IsInRange, made_by, after, told_next, told};
-ghost use Rattle.dcr_laws.specs.AtSites.{IsCovered};
+ghost use Rattle.dcr_proj.specs.CoverValue.{IsCovered};
 ghost use Rattle.dcr_run.specs.Engine.{AllStand};
 
 use crate::sites::Sites;
@@ -25,7 +25,7 @@ pub fn run_sessions(
     requires in_range { All (λ calls. All (IsInRange (length sites.old.sites) sites.old.atoms) calls) sessions.now }
     ensures capacity { IfOk result (λ history. history.capacity ≡ sum_by (λ calls. length calls) sessions.now) }
     ensures full { IfOk result (λ history. length history.entries ≡ history.capacity) }
-    ensures told { (G : Rules) (C : List Set) (M : Marks) → IsCovered G C → AllStand G C M sites.old.sites
+    ensures told { (G : Rules) (C : List Set) (M : Marks) → IsCovered G.atoms C → AllStand G C M sites.old.sites
         → IfOk result (λ history. history.entries ≡ told G C M sessions.now) }
     ensures stand { (G : Rules) (C : List Set) (M : Marks) → AllStand G C M sites.old.sites
         → IfOk result (λ history. AllStand G C (after G M history.entries) sites.new.sites) }
@@ -63,7 +63,7 @@ fn run_session(sites: &mut Sites, session: u32, calls: &CallList, history: &mut 
     ensures capacity { history.new.capacity ≡ history.old.capacity }
     ensures longer { length history.new.entries ≡ length history.old.entries + length calls.now }
     ensures so_far { All (λ entry. entry.session < session + 1) history.new.entries }
-    ensures told { (G : Rules) (C : List Set) (M : Marks) → IsCovered G C → AllStand G C (after G M history.old.entries) sites.old.sites
+    ensures told { (G : Rules) (C : List Set) (M : Marks) → IsCovered G.atoms C → AllStand G C (after G M history.old.entries) sites.old.sites
         → history.new.entries ≡ fold (told_next G C M) history.old.entries (map (λ call. (session, call)) calls.now) }
     ensures stand { (G : Rules) (C : List Set) (M : Marks) → AllStand G C (after G M history.old.entries) sites.old.sites
         → AllStand G C (after G M history.new.entries) sites.new.sites }
@@ -85,7 +85,7 @@ fn take_call(sites: &mut Sites, session: u32, seq: u32, call: Call, history: &mu
     ensures longer { length history.new.entries ≡ length history.old.entries + 1 }
     ensures made { made_by session history.new.entries ≡ made_by session history.old.entries + 1 }
     ensures so_far { All (λ entry. entry.session < session + 1) history.old.entries → All (λ entry. entry.session < session + 1) history.new.entries }
-    ensures told { (G : Rules) (C : List Set) (M : Marks) → IsCovered G C → AllStand G C (after G M history.old.entries) sites.old.sites
+    ensures told { (G : Rules) (C : List Set) (M : Marks) → IsCovered G.atoms C → AllStand G C (after G M history.old.entries) sites.old.sites
         → history.new.entries ≡ told_next G C M history.old.entries (session, call) }
     ensures stand { (G : Rules) (C : List Set) (M : Marks) → AllStand G C (after G M history.old.entries) sites.old.sites
         → AllStand G C (after G M history.new.entries) sites.new.sites }

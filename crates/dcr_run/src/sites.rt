@@ -11,7 +11,7 @@ ghost use Rattle.dcr_laws.specs.AtSites.{lesser as lesser_of};
 ghost use Rattle.dcr_run.specs.SitesModel.{alphabets_in};
 ghost use Rattle.dcr_run.specs.Engine.{AllStand, AreOver, AreOverMore, HeardEach, waits_in, told_by};
 
-use dcr_graph::{Cause, Graph, Marking, SiteMark};
+use dcr_graph::{Graph, Marking, SiteMark};
 use dcr_journal::{Call, MarkList, Outcome};
 use dcr_proj::{Cover, Network, project};
 use dcr_set::{EventId, EventSet, NoMemory, SiteId};
@@ -51,7 +51,7 @@ impl Sites {
     ghost use Rattle.dcr_graph.specs.declared.marking.Marking.{Marking as Marks};
     ghost use Rattle.dcr_journal.specs.Answer.{answer};
     ghost use Rattle.dcr_journal.specs.Run.{IsInRange, stepped_by, marks_at};
-    ghost use Rattle.dcr_laws.specs.AtSites.{IsCovered};
+    ghost use Rattle.dcr_proj.specs.CoverValue.{IsCovered};
     ghost use Rattle.dcr_run.specs.Engine.{AllStand};
 
     /// The sites of the cover, which is one of the graph's atoms, at the opening marking.
@@ -65,7 +65,7 @@ impl Sites {
         requires opening { HasRoom (length graph.now.names) opening.now }
         ensures atoms { IfOk result (λ engine. engine.atoms ≡ length graph.now.names) }
         ensures stand { IfOk result (λ engine. AllStand (rules_of graph.now) cover.now.owned opening.now engine.sites) }
-        ensures covers { OnOk result (IsCovered (rules_of graph.now) cover.now.owned) }
+        ensures covers { OnOk result (IsCovered (length graph.now.names) cover.now.owned) }
     {
         let opened = open_each(alloc, graph, cover.owned_sets(), opening)?;
         let network = Network::new(alloc, opened.alphabets)?;
@@ -82,7 +82,7 @@ impl Sites {
         requires { IsInRange (length self.old.sites) self.old.atoms call }
         ensures atoms { self.new.atoms ≡ self.old.atoms }
         ensures as_many { length self.new.sites ≡ length self.old.sites }
-        ensures answered { (G : Rules) (C : List Set) (M : Marks) → IsCovered G C → AllStand G C M self.old.sites → result ≡ answer G C M call }
+        ensures answered { (G : Rules) (C : List Set) (M : Marks) → IsCovered G.atoms C → AllStand G C M self.old.sites → result ≡ answer G C M call }
         ensures stepped { (G : Rules) (C : List Set) (M : Marks) → AllStand G C M self.old.sites
             → AllStand G C (stepped_by G M call result) self.new.sites }
     {
@@ -138,12 +138,9 @@ impl Sites {
 
     // Whether no atom is included and pending, or the least that is.
     fn accepting(&self) -> Outcome
-        ensures { (G : Rules) (C : List Set) (M : Marks) → IsCovered G C → AllStand G C M self.now.sites → result ≡ answer G C M Call.Accepting }
+        ensures { (G : Rules) (C : List Set) (M : Marks) → IsCovered G.atoms C → AllStand G C M self.now.sites → result ≡ answer G C M Call.Accepting }
     {
-        match self.first_waiting() {
-            Some(e) => Outcome::Waits(e),
-            None => Outcome::AllDone,
-        }
+        Outcome::verdict(self.first_waiting())
     }
 
     // Applies an execution at the sites whose alphabet has the event, and at no other.
@@ -167,7 +164,7 @@ impl Sites {
 
     /// The least atom that is included and pending, of the atoms that a site owns.
     pub fn first_waiting(&self) -> Option<EventId>
-        ensures { (G : Rules) (C : List Set) (M : Marks) → IsCovered G C → AllStand G C M self.now.sites → result ≡ waits G.atoms M }
+        ensures { (G : Rules) (C : List Set) (M : Marks) → IsCovered G.atoms C → AllStand G C M self.now.sites → result ≡ waits G.atoms M }
     {
         first_of_each(&self.members)
     }
@@ -255,9 +252,7 @@ fn outcome_of(decision: Decision) -> Outcome
 {
     match decision {
         Decision::NotHere => Outcome::NotHere,
-        Decision::Enabled => Outcome::Done,
-        Decision::Blocked(Cause::Excluded) => Outcome::Excluded,
-        Decision::Blocked(Cause::Condition(EventId(c))) => Outcome::Condition(EventId(c)),
-        Decision::Blocked(Cause::Milestone(EventId(m))) => Outcome::Milestone(EventId(m)),
+        Decision::Enabled => Outcome::of_cause(None),
+        Decision::Blocked(cause) => Outcome::of_cause(Some(cause)),
     }
 }

@@ -5,7 +5,7 @@ use Rattle.dcr_graph.specs.Rules.{Rules}
 use Rattle.dcr_graph.specs.declared.marking.Marking.{Marking}
 use Rattle.dcr_journal.specs.Run.{after, made_by}
 use Rattle.dcr_journal.specs.declared.call.Entry.{Entry}
-use Rattle.dcr_laws.specs.AtSites.{IsCovered}
+use Rattle.dcr_proj.specs.CoverValue.{IsCovered}
 use Rattle.dcr_run.specs.Engine.{AllStand}
 use Rattle.dcr_run.proofs.SessionLemmas.{told_so_far}
 use Rattle.dcr_run.proofs.session.run_session.Given as goal
@@ -18,7 +18,7 @@ invariant-loop-i l = record {
   longer : length l.history.entries ≡ length l.fn.history.entries + l.i;
   made : made_by l.session l.history.entries ≡ l.i;
   so_far : All (λ (entry : Entry). entry.session < l.session + 1) l.history.entries;
-  told : (G : Rules) (C : List Set) (M : Marking) → IsCovered G C → AllStand G C (after G M l.fn.history.entries) l.fn.sites.sites
+  told : (G : Rules) (C : List Set) (M : Marking) → IsCovered G.atoms C → AllStand G C (after G M l.fn.history.entries) l.fn.sites.sites
       → l.history.entries ≡ told_so_far G C M l.fn.history.entries l.session l.i l.calls;
   stand : (G : Rules) (C : List Set) (M : Marking) → AllStand G C (after G M l.fn.history.entries) l.fn.sites.sites → AllStand G C (after G M l.history.entries) l.sites.sites;
 }

@@ -7,7 +7,7 @@ use Rattle.dcr_graph.specs.declared.marking.Marking.{Marking}
 use Rattle.dcr_journal.specs.Run.{after, numbered, told_next}
 use Rattle.dcr_journal.specs.declared.call.Call.{Call}
 use Rattle.dcr_journal.specs.declared.call.Entry.{Entry}
-use Rattle.dcr_laws.specs.AtSites.{IsCovered}
+use Rattle.dcr_proj.specs.CoverValue.{IsCovered}
 use Rattle.dcr_run.specs.Engine.{AllStand}
 use Rattle.dcr_run.proofs.session.run_sessions.Given as goal
 
@@ -18,7 +18,7 @@ invariant-loop-number l = record {
   capacity : l.history.capacity ≡ sum_by (λ (calls : List Call). length calls) l.sessions;
   longer : length l.history.entries ≡ sum_by (λ (calls : List Call). length calls) (take l.number l.sessions);
   earlier : All (λ (entry : Entry). entry.session < l.number) l.history.entries;
-  told : (G : Rules) (C : List Set) (M : Marking) → IsCovered G C → AllStand G C M l.fn.sites.sites
+  told : (G : Rules) (C : List Set) (M : Marking) → IsCovered G.atoms C → AllStand G C M l.fn.sites.sites
       → l.history.entries ≡ fold (told_next G C M) [] (numbered 0 (take l.number l.sessions));
   stand : (G : Rules) (C : List Set) (M : Marking) → AllStand G C M l.fn.sites.sites → AllStand G C (after G M l.history.entries) l.sites.sites;
 }
