@@ -1,16 +1,12 @@
 -- Names in an index: the place of a name, and a name more.
-use Rattle.std.proofs.Common.{◌≡◌, ℕ, ◌+◌, ◌<◌, inl, inr, Bool, false, cond, List, [], ◌∷◌, ◌++◌, ◌||◌, refl, length, get_or, take, map, Some, None, sym, ap, ◌∙◌, arith}
-use Rattle.std.specs.List.{list_any, position, position_or_len}
+use Rattle.std.proofs.Common.{◌≡◌, ℕ, ◌+◌, ◌<◌, Bool, false, cond, List, [], ◌∷◌, ◌++◌, ◌||◌, refl, length, get_or, take, map, sym, ap, ◌∙◌, arith}
+use Rattle.std.specs.List.{list_any}
 use Rattle.std.specs.Str.{bytes_eq}
-use Rattle.std.proofs.lemmas.Bool.{cases_lt, lt-ltb, le-ltb}
 use Rattle.std.proofs.lemmas.Cmp.{nat_list_eq_equiv}
-use Rattle.std.proofs.lemmas.List.{get_or-map, get_or-take, length-map, length-take, map_push, take_more}
+use Rattle.std.proofs.lemmas.List.{get_or-take, length-take, map_push, take_more}
 use Rattle.std.proofs.lemmas.List.Elements.{All-from_get_or}
 use Rattle.std.proofs.lemmas.List.Folds.{list_any_none}
-use Rattle.std.proofs.lemmas.List.Sums.{fails_before_first, passes_at_first}
-use Rattle.dcr_set.specs.Least.{least}
-use Rattle.dcr_set.proofs.LeastLemmas.{least-ext, least-from, least-none_from}
-use Rattle.dcr_graph.specs.Names.{number_of, AreDistinct}
+use Rattle.dcr_graph.specs.Names.{AreDistinct}
 use Rattle.indexmap.specs.IndexSet.{insert_key}
 
 -- a test of the keys that a test of the names tells

@@ -10,7 +10,7 @@ use Rattle.dcr_nest.specs.FlatRelation.{of_atoms}
 use Rattle.dcr_nest.specs.Tree.{Parents, atoms}
 use Rattle.dcr_nest.specs.declared.node.Node.{Node}
 use Rattle.dcr_nest.proofs.AtomLemmas.{atoms-within}
-use Rattle.dcr_nest.proofs.FlatLemmas.{length-of_atoms, distinct_atoms}
+use Rattle.dcr_nest.proofs.FlatLemmas.{all_atoms, distinct_atoms}
 use Rattle.dcr_proj.specs.CoverValue.{Owners}
 use Rattle.dcr_shape.specs.Parts.{Event, no_event}
 use Rattle.dcr_shape.specs.declared.stop.ReadStop.{ReadStop}
@@ -34,14 +34,6 @@ event_names events each k d l =
     let at = slice_get-get_or events k no_event within in
     ap is_name (get_or-map (λ (event : Event). event.name) events k no_event d within) ∙ (each k (get_or events k no_event) at).name
 
--- so are those of the atoms
-atom_texts : (parents : Parents) (texts : List (List ℕ)) → length parents ≡ length texts → All (λ text. is_name text ≡ true) texts
-    → All (λ text. is_name text ≡ true) (of_atoms parents texts)
-atom_texts parents texts many are k d l =
-    let within : k < length (atoms parents) = let same = length-of_atoms parents texts in omega arith in
-    let below = atoms-within parents k 0 within in
-    ap is_name (get_or-map (λ x. get_or texts x []) (atoms parents) k 0 d within) ∙ are (get_or (atoms parents) k 0) [] (omega arith)
-
 ok_nodes : (x y : Nodes) → (let r : Result Nodes ReadStop = Ok x in r) ≡ Ok y → x ≡ y
 ok_nodes x y e = cc
 
@@ -58,7 +50,7 @@ atoms_are_names w nodes e =
     let P : Nodes → Type 0 = λ ns. AreNames (atom_names ns.nested) in
     let Named : List (List ℕ) → Type 0 = λ texts. All (λ text. is_name text ≡ true) texts in
     subst P (ok_nodes _ nodes r.2) (record {
-      names = atom_texts (parents_of t.0) (node_names t.0) many (subst Named (sym same) (event_names w.events each));
+      names = all_atoms (λ text. is_name text ≡ true) (parents_of t.0) (node_names t.0) many (subst Named (sym same) (event_names w.events each));
       distinct = distinct_atoms (parents_of t.0) (node_names t.0) many (subst AreDistinct (sym same) (distinct_names w.events n.0 n.1));
     })
 

@@ -5,7 +5,7 @@ use Rattle.std.specs.List.{All, list_any, range_with_len}
 use Rattle.std.specs.Str.{bytes_eq}
 use Rattle.std.proofs.lemmas.Bool.{cases_lt}
 use Rattle.std.proofs.lemmas.List.{get_or-map, get_or_past, length-map}
-use Rattle.std.proofs.lemmas.List.Elements.{All-head, All-tail}
+use Rattle.std.proofs.lemmas.List.Elements.{All-head, All-map, All-tail}
 use Rattle.std.proofs.lemmas.List.Folds.{list_any_none}
 use Rattle.std.proofs.lemmas.List.FromFn.{length-map-range_with_len, get_or-map-range_with_len, fill_by_all}
 use Rattle.dcr_graph.proofs.BoolLemmas.{and_comm, and_false}
@@ -166,3 +166,8 @@ distinct_atoms parents texts many distinct i j before within =
     ap (λ t. bytes_eq t (get_or (of_atoms parents texts) j [])) (get_or-map (λ k. get_or texts k []) (atoms parents) i 0 [] (omega arith))
     ∙ ap (bytes_eq (get_or texts x [])) (get_or-map (λ k. get_or texts k []) (atoms parents) j 0 [] inside)
     ∙ distinct x y (atoms-ascend parents i j 0 before inside) (omega arith)
+
+-- what is so of the texts of the nodes is so of those of the atoms
+pub all_atoms : (P : List ℕ → Type 0) (parents : Parents) (texts : List (List ℕ)) → length parents ≡ length texts → All P texts → All P (of_atoms parents texts)
+all_atoms P parents texts many are = All-map P (λ x. get_or texts x []) (atoms parents) (λ k d within.
+    let below = atoms-within parents k d within in are (get_or (atoms parents) k d) [] (omega arith))

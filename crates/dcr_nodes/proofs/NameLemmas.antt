@@ -29,7 +29,8 @@ any_false p keys none k d l = at (p (get_or keys k d)) refl
     at true e = let some = list_any_at p keys k d l e in absurd (let bad = sym some ∙ none in cc)
     at false e = e
 
-any_true : {K : Type 0} (p : K → Bool) (keys : List K) → list_any p keys ≡ true → (k : ℕ) × (k < length keys) × ((d : K) → p (get_or keys k d) ≡ true)
+-- where a test is passed, one passes it
+pub any_true : {K : Type 0} (p : K → Bool) (keys : List K) → list_any p keys ≡ true → (k : ℕ) × (k < length keys) × ((d : K) → p (get_or keys k d) ≡ true)
 any_true p [] e = absurd cc
 any_true {K = K} p (x ∷ xs) e = at (p x) refl (any_true p xs)
   where

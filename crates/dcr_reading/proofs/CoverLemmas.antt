@@ -17,6 +17,8 @@ use Rattle.dcr_graph.proofs.BoolLemmas.{or_false}
 use Rattle.dcr_nest.specs.Nest.{Nest, IsNested, names_of, parents_of}
 use Rattle.dcr_nest.specs.Tree.{Parents, AreEarlier, parent_of, is_at_or_below, is_parent, atoms}
 use Rattle.dcr_nest.specs.declared.node.Node.{Node}
+use Rattle.dcr_nest.proofs.FlatLemmas.{all_atoms}
+use Rattle.dcr_nodes.proofs.NameLemmas.{any_true}
 use Rattle.dcr_nest.proofs.AtomLemmas.{atoms-within, atoms-ascend, picked-passes}
 use Rattle.dcr_nest.proofs.TreeLemmas.{meets_at_top, meets_once, parent_within}
 use Rattle.dcr_proj.specs.CoverValue.{Owners}
@@ -73,21 +75,11 @@ same_atom parents a b l m same = elim (cases_lt a b) [
   ]
 ]
 
-any_found : {X : Type 0} (p : X → Bool) (xs : List X) (d : X) → list_any p xs ≡ true → (k : ℕ) × (k < length xs) × (p (get_or xs k d) ≡ true)
-any_found p [] d e = absurd (false≢true e)
-any_found {X = X} p (x ∷ xs) d e = at (p x) refl (any_found p xs d)
-  where
-    at : (b : Bool) → p x ≡ b → (list_any p xs ≡ true → (k : ℕ) × (k < length xs) × (p (get_or xs k d) ≡ true)) → (k : ℕ) × (k < length (x ∷ xs)) × (p (get_or (x ∷ xs) k d) ≡ true)
-    at true is rest = (0, omega arith, is)
-    at false is rest = let more = rest (sym (ap (λ b. b || list_any p xs) is) ∙ e) in (suc more.0, (let l = more.1 in omega arith), more.2)
-
 -- the names of atoms are names where those of nodes are
 pub atom_names_are : (N : Nest) → AreAllNames (names_of N.nodes) → AreAllNames (atom_names N)
-atom_names_are N are = All-map (λ name. is_name name ≡ true) (λ x. get_or (names_of N.nodes) x []) (atoms (parents_of N.nodes)) (λ k d l.
-    let within = atoms-within (parents_of N.nodes) k d l in
-    let parents = length-map N.nodes (λ (node : Node). node.parent) in
-    let names = length-map N.nodes (λ (node : Node). node.name) in
-    are (get_or (atoms (parents_of N.nodes)) k d) [] (omega arith))
+atom_names_are N are =
+    all_atoms (λ name. is_name name ≡ true) (parents_of N.nodes) (names_of N.nodes)
+    (length-map N.nodes (λ (node : Node). node.parent) ∙ sym (length-map N.nodes (λ (node : Node). node.name))) are
 
 -- ---- the sites of a cover
 
@@ -197,11 +189,11 @@ module _ (N : Nest) (nested : IsNested N) (C : Owners) (ok : IsAcceptedCover N C
   covered atom within =
       let some = ok.is_cover.some_site in
       let first = room 0 (omega arith) in
-      let found = any_found (λ set. has set atom) C.owned [] (ok.is_cover.covered atom (omega arith)) in
+      let found = any_true (λ set. has set atom) C.owned (ok.is_cover.covered atom (omega arith)) in
       let as_many = ok.is_cover.as_many in
       let below = found.1 in
       let here : found.0 < length C.names = omega arith in
-      (found.0, (let many = many_sites in omega arith), owns found.0 atom here within found.2)
+      (found.0, (let many = many_sites in omega arith), owns found.0 atom here within (found.2 []))
 
   names_are : C.names ≡ map (λ (site : Written). site.0) sites
   names_are =

@@ -18,7 +18,7 @@ use Rattle.dcr_nest.specs.declared.node.Node.{Node}
 use Rattle.dcr_nest.specs.declared.node.Version.{Version}
 use Rattle.dcr_nest.specs.declared.node.Version.TheVariants.{V1, V2}
 use Rattle.dcr_nest.proofs.AtomLemmas.{atoms-within}
-use Rattle.dcr_nest.proofs.FlatLemmas.{distinct_atoms, length-of_atoms}
+use Rattle.dcr_nest.proofs.FlatLemmas.{all_atoms, distinct_atoms, length-of_atoms}
 use Rattle.dcr_proj.specs.CoverValue.{Owners}
 use Rattle.dcr_journal.specs.Run.{marks_at}
 use Rattle.dcr_journal.specs.declared.call.Entry.{Entry}
@@ -51,10 +51,7 @@ atoms_named N ok =
     let parents = parents_of N.nodes in let texts = names_of N.nodes in
     let many : length parents ≡ length texts = length-map N.nodes (λ (node : Node). node.parent) ∙ sym (length-map N.nodes (λ (node : Node). node.name)) in
     record {
-      names = λ k d l.
-          let within : k < length (atoms parents) = let same = length-of_atoms parents texts in omega arith in
-          let below = atoms-within parents k 0 within in
-          ap is_name (get_or-map (λ x. get_or texts x []) (atoms parents) k 0 d within) ∙ ok.names (get_or (atoms parents) k 0) [] (omega arith);
+      names = all_atoms (λ name. is_name name ≡ true) parents texts many ok.names;
       distinct = distinct_atoms parents texts many ok.nested.distinct;
     }
 
