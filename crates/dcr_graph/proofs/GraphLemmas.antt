@@ -39,7 +39,8 @@ first_clash-none G none =
     ap (option_and_then (λ x. option_map (λ y. (x, y)) (least G.atoms (clashes G x))))
     (least-none_from G.atoms (λ k. some_below G.atoms (clashes G k)) (λ k l. ap is_some (none k l)))
 
-kind_number_below : (kind : Kind) → kind_number kind < 6
+-- there are six kinds
+pub kind_number_below : (kind : Kind) → kind_number kind < 6
 kind_number_below Condition = omega arith
 kind_number_below Response = omega arith
 kind_number_below Milestone = omega arith

@@ -9,14 +9,12 @@ use Rattle.std.proofs.lemmas.List.Elements.{All-head, All-map, All-tail}
 use Rattle.std.proofs.lemmas.List.Folds.{list_any_none}
 use Rattle.std.proofs.lemmas.List.FromFn.{length-map-range_with_len, get_or-map-range_with_len, fill_by_all}
 use Rattle.dcr_graph.proofs.BoolLemmas.{and_comm, and_false}
-use Rattle.dcr_graph.proofs.GraphLemmas.{same_rules}
+use Rattle.dcr_graph.proofs.GraphLemmas.{kind_number_below, same_rules}
 use Rattle.dcr_graph.specs.GraphValue.{flat, rules_of}
 use Rattle.dcr_graph.specs.Names.{AreDistinct}
 use Rattle.dcr_graph.specs.Pairs.{Pair, AreInRange}
 use Rattle.dcr_graph.specs.Rows.{row, leads}
 use Rattle.dcr_graph.specs.Rules.{kind_number}
-use Rattle.dcr_graph.specs.declared.kind.Kind.{Kind}
-use Rattle.dcr_graph.specs.declared.kind.Kind.TheVariants.{Condition, Response, Milestone, Include, Exclude, Cancel}
 use Rattle.dcr_set.specs.EventSet.{Set, has, those}
 use Rattle.dcr_set.proofs.SetLemmas.{length-those, has-those, has_past, has_past-those, same_set}
 use Rattle.dcr_nest.specs.FlatRelation.{is_related, flat_relation, of_atoms, related_rows, gathers}
@@ -137,20 +135,12 @@ spread_is_related parents relations kind below gathered spread all ends gather h
     ∙ sym (has-those n (is_related parents relations kind a) b (let room = rooms x inside in omega arith))))
 
 -- the graph of the tables
-kind_below : (kind : Kind) → kind_number kind < 6
-kind_below Condition = omega arith
-kind_below Response = omega arith
-kind_below Milestone = omega arith
-kind_below Include = omega arith
-kind_below Exclude = omega arith
-kind_below Cancel = omega arith
-
 pub flat_rules : (N : Nest) (names labels : List (List ℕ)) (tables : List (List Set)) → length names ≡ length (atoms (parents_of N.nodes))
     → tables ≡ map (related_rows (parents_of N.nodes) N.relations) (range_with_len 0 6) → rules_of (flat names labels tables) ≡ flat_relation N
 flat_rules N names labels tables many all =
     same_rules (rules_of (flat names labels tables)) (flat_relation N) many (λ kind a b.
     ap (λ ts. leads (get_or ts (kind_number kind) []) a b) all
-    ∙ ap (λ table. leads table a b) (get_or-map-range_with_len (related_rows (parents_of N.nodes) N.relations) 0 6 (kind_number kind) (kind_number kind) [] (kind_below kind) (omega arith))
+    ∙ ap (λ table. leads table a b) (get_or-map-range_with_len (related_rows (parents_of N.nodes) N.relations) 0 6 (kind_number kind) (kind_number kind) [] (kind_number_below kind) (omega arith))
     ∙ leads-related (parents_of N.nodes) N.relations (kind_number kind) a b)
 
 pub length-of_atoms : (parents : Parents) (texts : List (List ℕ)) → length (of_atoms parents texts) ≡ length (atoms parents)
