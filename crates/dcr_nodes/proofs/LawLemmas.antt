@@ -1,15 +1,15 @@
 -- The stages one after another: all is as the format says, or one is the first that is refused.
-use Rattle.std.proofs.Common.{◌≡◌, ℕ, zero, suc, ◌+◌, ◌<◌, inl, inr, Bool, true, false, ◌||◌, List, [], ◌∷◌, Option, Some, None, is_some, Result, Ok, Err, refl, sym, ap, ◌∙◌, subst, arith}
-use Rattle.std.specs.List.{list_any, slice_get}
+use Rattle.std.proofs.Common.{◌≡◌, ℕ, zero, suc, ◌+◌, ◌<◌, inl, inr, Bool, true, false, ◌||◌, List, Option, Some, None, is_some, Result, Ok, Err, refl, sym, ap, ◌∙◌, subst, arith}
+use Rattle.std.specs.List.{list_any}
 use Rattle.std.specs.Prelude.{IfSome}
 use Rattle.std.proofs.lemmas.Bool.{cases_lt}
-use Rattle.std.proofs.lemmas.Option.{same_Some}
 use Rattle.dcr_graph.specs.Names.{is_name, number_of}
 use Rattle.dcr_shape.specs.Parts.{Event, Relation}
 use Rattle.dcr_shape.specs.Stages.{after, each_from}
 use Rattle.dcr_shape.specs.declared.stop.ReadStop.{ReadStop}
 use Rattle.dcr_shape.specs.declared.stop.ReadStop.TheVariants.{EventName, Parent, MarkOnNest, RelationEnd}
 use Rattle.dcr_shape.specs.declared.written.Written.{Written}
+use Rattle.dcr_shape.proofs.EachLemmas.{OneRead, went, halted, EachRead, all_read, first_not, each_read_from}
 use Rattle.dcr_shape.proofs.OrderLemmas.{Outcome, passed, failed, Ends, all_hold, IsOrder, up_to_none, stage, refuses_first}
 use Rattle.dcr_limit.specs.Limits.{names_parent}
 use Rattle.dcr_nodes.specs.Laws.{rank, NodesAreTheFormats}
@@ -17,57 +17,27 @@ use Rattle.dcr_nodes.specs.Nodes.{names_of, number_before, name_in, names_in, pa
 use Rattle.dcr_nodes.specs.Words.{EachAt, FailsFirst, IsEarlierName, IsEventName, HasNewName, HasEarlierParent, HasNoMark, HasNoMarkAsParent, HasEnds, Refusal, OfEventName, OfParent, OfMarkOnNest, OfRelationEnd, refused, Holds, FailsAt}
 use Rattle.dcr_nodes.proofs.NameLemmas.{is_earlier, not_earlier, is_event, not_event, is_parent_name, not_parent_name}
 
--- ---- one element
+-- ---- each of a list
 
--- it was read, and passes, or it is refused, and does not
-data Step {B : Type 0} (stop : ReadStop) (r : Result B ReadStop) (P : Type 0) : Type 0 where
-  went : (y : B) → r ≡ Ok y → P → Step stop r P
-  halted : r ≡ Err stop → (P → ⊥) → Step stop r P
+-- an element was read, and passes, or it is refused, and does not
+abbrev Step : {B : Type 0} → ReadStop → Result B ReadStop → Type 0 → Type 0
+Step stop r P = OneRead P (λ e. (e ≡ stop) × (P → ⊥)) r
 
--- ---- a list of them, counting from n
+each_outcome : {A B : Type 0} (stop : ℕ → ReadStop) (read : ℕ → A → Result B ReadStop) (P : ℕ → A → Type 0) → ((i : ℕ) (x : A) → Step (stop i) (read i x) (P i x))
+    → (xs : List A) → Outcome stop (each_from read 0 xs) (EachAt P xs) (FailsFirst P xs)
+each_outcome {A = A} stop read P step xs = whole (each_read_from P (λ i x e. (e ≡ stop i) × (P i x → ⊥)) read step 0 xs)
+  where
+    counted : (i : ℕ) → 0 + i ≡ i
+    counted i = omega arith
 
-data OutcomeFrom {A B : Type 0} (stop : ℕ → ReadStop) (P : ℕ → A → Type 0) (n : ℕ) (xs : List A) (r : Result (List B) ReadStop) : Type 0 where
-  passed_from : (ys : List B) → r ≡ Ok ys → ((i : ℕ) (x : A) → slice_get xs i ≡ Some x → P (n + i) x) → OutcomeFrom stop P n xs r
-  failed_from : (i : ℕ) (x : A) → r ≡ Err (stop (n + i)) → slice_get xs i ≡ Some x → (P (n + i) x → ⊥) → ((j : ℕ) (y : A) → j < i → slice_get xs j ≡ Some y → P (n + j) y) → OutcomeFrom stop P n xs r
-
-module _ {A B : Type 0} (stop : ℕ → ReadStop) (read : ℕ → A → Result B ReadStop) (P : ℕ → A → Type 0) (step : (i : ℕ) (x : A) → Step (stop i) (read i x) (P i x)) where
-  -- one more before those that pass
-  all_pass : (n : ℕ) (x : A) (xs : List A) → P n x → ((i : ℕ) (y : A) → slice_get xs i ≡ Some y → P (n + 1 + i) y) → (i : ℕ) (y : A) → slice_get (x ∷ xs) i ≡ Some y → P (n + i) y
-  all_pass n x xs here later zero y is = let same : n ≡ n + 0 = omega arith in subst (λ k. P k y) same (subst (P n) (same_Some _ _ is) here)
-  all_pass n x xs here later (suc i) y is = let same : n + 1 + i ≡ n + suc i = omega arith in subst (λ k. P k y) same (later i y is)
-
-  earlier_pass : (n : ℕ) (x : A) (xs : List A) (m : ℕ) → P n x → ((j : ℕ) (y : A) → j < m → slice_get xs j ≡ Some y → P (n + 1 + j) y) → (j : ℕ) (y : A) → j < suc m → slice_get (x ∷ xs) j ≡ Some y → P (n + j) y
-  earlier_pass n x xs m here later zero y l is = let same : n ≡ n + 0 = omega arith in subst (λ k. P k y) same (subst (P n) (same_Some _ _ is) here)
-  earlier_pass n x xs m here later (suc j) y l is = let same : n + 1 + j ≡ n + suc j = omega arith in subst (λ k. P k y) same (later j y (omega arith) is)
-
-  each_outcome_from : (n : ℕ) (xs : List A) → OutcomeFrom stop P n xs (each_from read n xs)
-  each_outcome_from n [] = passed_from [] refl (λ i x is. absurd cc)
-  each_outcome_from n (x ∷ xs) = at (step n x) (each_outcome_from (n + 1) xs)
-    where
-      at : Step (stop n) (read n x) (P n x) → OutcomeFrom stop P (n + 1) xs (each_from read (n + 1) xs) → OutcomeFrom stop P n (x ∷ xs) (each_from read n (x ∷ xs))
-      at (halted e never) more =
-          let same : n ≡ n + 0 = omega arith in
-          failed_from 0 x (ap (after (λ y. after (λ ys. Ok (y ∷ ys)) (each_from read (n + 1) xs))) e ∙ ap (λ k. Err (stop k)) same) refl
-          (λ p. never (subst (λ k. P k x) (sym same) p)) (λ j y l is. absurd (omega arith))
-      at (went y e p) (passed_from ys f all) = passed_from (y ∷ ys) (rw (e, f) refl) (all_pass n x xs p all)
-      at (went y e p) (failed_from i z f is never before) =
-          let same : n + 1 + i ≡ n + suc i = omega arith in
-          failed_from (suc i) z (rw (e, f) (ap (λ k. Err (stop k)) same)) is (λ q. never (subst (λ k. P k z) (sym same) q)) (earlier_pass n x xs i p before)
-
-  each_outcome : (xs : List A) → Outcome stop (each_from read 0 xs) (EachAt P xs) (FailsFirst P xs)
-  each_outcome xs = whole (each_outcome_from 0 xs)
-    where
-      counted : (i : ℕ) → 0 + i ≡ i
-      counted i = omega arith
-
-      whole : OutcomeFrom stop P 0 xs (each_from read 0 xs) → Outcome stop (each_from read 0 xs) (EachAt P xs) (FailsFirst P xs)
-      whole (passed_from ys e all) = passed ys e (λ i x is. subst (λ k. P k x) (counted i) (all i x is))
-      whole (failed_from i x e is never before) = failed i (e ∙ ap (λ k. Err (stop k)) (counted i)) (record {
-        element = x;
-        at = is;
-        fails = λ p. never (subst (λ k. P k x) (sym (counted i)) p);
-        earlier = λ j y l at. subst (λ k. P k y) (counted j) (before j y l at);
-      })
+    whole : EachRead P (λ i x e. (e ≡ stop i) × (P i x → ⊥)) 0 xs (each_from read 0 xs) → Outcome stop (each_from read 0 xs) (EachAt P xs) (FailsFirst P xs)
+    whole (all_read ys e all) = passed ys e (λ i x is. subst (λ k. P k x) (counted i) (all i x is))
+    whole (first_not i x refusal e is why before) = failed i (e ∙ ap Err (why.0 ∙ ap stop (counted i))) (record {
+      element = x;
+      at = is;
+      fails = λ p. why.1 (subst (λ k. P k x) (sym (counted i)) p);
+      earlier = λ j y l at. subst (λ k. P k y) (counted j) (before j y l at);
+    })
 
 -- ---- the names
 
@@ -75,9 +45,9 @@ name_step : (events : List Event) (i : ℕ) (event : Event) → Step (EventName 
 name_step events i event = at (is_name event.name) (number_before (names_of events) i event.name) refl refl
   where
     at : (b : Bool) (o : Option ℕ) → is_name event.name ≡ b → number_before (names_of events) i event.name ≡ o → Step (EventName i) (name_in (names_of events) i event) (HasNewName events i event)
-    at false o n e = halted (rw n refl) (λ h. let bad = sym h.name ∙ n in cc)
+    at false o n e = halted _ (rw n refl) (refl, λ h. let bad = sym h.name ∙ n in cc)
     at true None n e = went event.name (rw (n, e) refl) (record { name = n; new = not_earlier events i event.name e })
-    at true (Some k) n e = halted (rw (n, e) refl) (λ h. h.new (is_earlier events i event.name k e))
+    at true (Some k) n e = halted _ (rw (n, e) refl) (refl, λ h. h.new (is_earlier events i event.name k e))
 
 -- ---- the parents
 
@@ -86,7 +56,7 @@ parent_step events i None = went None refl tt
 parent_step events i (Some text) = at (number_before (names_of events) i text) refl
   where
     at : (o : Option ℕ) → number_before (names_of events) i text ≡ o → Step (Parent i) (parent_in (names_of events) i (Some text)) (IsEarlierName events i text)
-    at None e = halted (rw e refl) (λ h. not_earlier events i text e h)
+    at None e = halted _ (rw e refl) (refl, λ h. not_earlier events i text e h)
     at (Some p) e = went (Some p) (rw e refl) (is_earlier events i text p e)
 
 node_step : (events : List Event) (i : ℕ) (event : Event) → Step (Parent i) (node_in (names_of events) i event) (HasEarlierParent events i event)
@@ -94,7 +64,7 @@ node_step events i event = at (parent_step events i event.parent)
   where
     at : Step (Parent i) (parent_in (names_of events) i event.parent) (IfSome event.parent (IsEarlierName events i)) → Step (Parent i) (node_in (names_of events) i event) (HasEarlierParent events i event)
     at (went parent e h) = went (node_with event parent) (ap (after (λ parent. Ok (node_with event parent))) e) h
-    at (halted e never) = halted (ap (after (λ parent. Ok (node_with event parent))) e) never
+    at (halted refusal e why) = halted refusal (ap (after (λ parent. Ok (node_with event parent))) e) why
 
 -- ---- the marks
 
@@ -125,7 +95,7 @@ mark_step events i event = at (list_any (names_parent event.name) events) (write
     at : (b c : Bool) → list_any (names_parent event.name) events ≡ b → writes_mark event ≡ c → Step (MarkOnNest i) (mark_in events i event) (HasNoMarkAsParent events i event)
     at false c e f = went tt (rw e refl) (λ is. absurd (not_parent_name events event.name e is))
     at true false e f = went tt (rw (e, f) refl) (λ is. no_mark event f)
-    at true true e f = halted (rw (e, f) refl) (λ h. some_mark event f (h (is_parent_name events event.name e)))
+    at true true e f = halted _ (rw (e, f) refl) (refl, λ h. some_mark event f (h (is_parent_name events event.name e)))
 
 done_with : List (Unit {0}) → Result (Unit {0}) ReadStop
 done_with xs = Ok tt
@@ -145,7 +115,7 @@ end_step : (events : List Event) (i : ℕ) (text : List ℕ) → Step (RelationE
 end_step events i text = at (number_of (names_of events) text) refl
   where
     at : (o : Option ℕ) → number_of (names_of events) text ≡ o → Step (RelationEnd i) (end_in (names_of events) i text) (IsEventName events text)
-    at None e = halted (rw e refl) (λ h. not_event events text e h)
+    at None e = halted _ (rw e refl) (refl, λ h. not_event events text e h)
     at (Some p) e = went p (rw e refl) (is_event events text p e)
 
 pair_step : (events : List Event) (i : ℕ) (relation : Relation) → Step (RelationEnd i) (pair_in (names_of events) i relation) (HasEnds events i relation)
@@ -154,8 +124,8 @@ pair_step events i relation = at (end_step events i relation.source) (end_step e
     at : Step (RelationEnd i) (end_in (names_of events) i relation.source) (IsEventName events relation.source) → Step (RelationEnd i) (end_in (names_of events) i relation.target) (IsEventName events relation.target)
         → Step (RelationEnd i) (pair_in (names_of events) i relation) (HasEnds events i relation)
     at (went a e h) (went b f k) = went (relation.kind, a, b) (rw (e, f) refl) (record { source = h; target = k })
-    at (went a e h) (halted f never) = halted (rw (e, f) refl) (λ both. never both.target)
-    at (halted e never) more = halted (rw e refl) (λ both. never both.source)
+    at (went a e h) (halted refusal f why) = halted refusal (rw (e, f) refl) (why.0, λ both. why.1 both.target)
+    at (halted refusal e why) more = halted refusal (rw e refl) (why.0, λ both. why.1 both.source)
 
 -- ---- the order
 
