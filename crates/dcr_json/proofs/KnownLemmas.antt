@@ -6,10 +6,7 @@ use Rattle.std.proofs.lemmas.List.{get_or-map, length-map}
 use Rattle.std.proofs.lemmas.Option.{slice_get-get_or}
 use Rattle.dcr_graph.specs.Names.{is_name, AreDistinct}
 use Rattle.dcr_nest.specs.Nest.{parents_of, names_of as node_names}
-use Rattle.dcr_nest.specs.FlatRelation.{of_atoms}
-use Rattle.dcr_nest.specs.Tree.{Parents, atoms}
 use Rattle.dcr_nest.specs.declared.node.Node.{Node}
-use Rattle.dcr_nest.proofs.AtomLemmas.{atoms-within}
 use Rattle.dcr_nest.proofs.FlatLemmas.{all_atoms, distinct_atoms}
 use Rattle.dcr_proj.specs.CoverValue.{Owners}
 use Rattle.dcr_shape.specs.Parts.{Event, no_event}

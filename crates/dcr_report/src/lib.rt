@@ -4,8 +4,10 @@
 
 mod lines;
 mod report;
+mod write;
 
 pub use report::{ReportStop, write_report};
+pub use write::{write_end, write_site, write_verdict};
 
 #[cfg(test)]
 mod tests;

@@ -11,15 +11,15 @@ ghost use Rattle.dcr_report.specs.FitsClosed.{FitsClosed};
 ghost use Rattle.dcr_report.specs.Passed.{Passes, StopsWithin};
 
 use crate::ReportStop;
+use crate::write::{write_end, write_site, write_verdict};
 use dcr_base::{Sink, write_all};
 use dcr_canon::{cover_text, graph_text};
 use dcr_graph::{Graph, Name, SiteMark};
 use dcr_journal::{Closed, Entry, Journal, MarkList};
-use dcr_line::{write_entry, write_event, write_mark, write_marking};
+use dcr_line::{write_entry, write_marking};
 use dcr_nest::{Nested, Version};
 use dcr_proj::Cover;
 use dcr_set::{EventId, NoMemory};
-use dcr_text::decimal;
 use std::alloc::Global;
 
 // How many bytes are held back at most before the sink gets them, but for the head or one line.
@@ -191,10 +191,7 @@ fn put_site(site: &Name, mark: &SiteMark, graph: &Graph, held: &mut Vec<u8>) -> 
     ensures { OnOk result (held.new.items
         ≡ held.old.items ++ line (site_text graph.now.names site.now mark.now)) }
 {
-    put(b"site ", held)?;
-    put(site.text().as_bytes(), held)?;
-    put(b" ", held)?;
-    write_mark(mark, graph, held)?;
+    write_site(site, mark, graph, held)?;
     put(b"\n", held)
 }
 
@@ -210,8 +207,7 @@ pub(crate) fn put_end(
         ≡ held.old.items ++ lines_text (end_lines graph.now.names waits count)) }
 {
     put_verdict(waits, graph, held)?;
-    put(b"end ", held)?;
-    decimal(u64::from(count), held)?;
+    write_end(count, held)?;
     put(b"\n", held)
 }
 
@@ -220,11 +216,7 @@ fn put_verdict(waits: Option<EventId>, graph: &Graph, held: &mut Vec<u8>) -> Res
     ensures { OnOk result (held.new.items
         ≡ held.old.items ++ line (verdict_text graph.now.names waits)) }
 {
-    let Some(e) = waits else {
-        return put(b"verdict accepting\n", held);
-    };
-    put(b"verdict waits ", held)?;
-    write_event(e, graph, held)?;
+    write_verdict(waits, graph, held)?;
     put(b"\n", held)
 }
 

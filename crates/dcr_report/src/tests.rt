@@ -17,7 +17,7 @@ ghost use Rattle.dcr_line.specs.Fits.{FitsAtoms, FitsEntry, FitsOutcome, is_of_k
 ghost use Rattle.dcr_report.specs.FitsClosed.{FitsClosed};
 
 use crate::report::write_told;
-use crate::{ReportStop, write_report};
+use crate::{ReportStop, write_end, write_report, write_site, write_verdict};
 use dcr_base::StdSink;
 use dcr_cover::{SiteText, check};
 use dcr_graph::{Graph, Kind, Label, Marking, Name, SiteMark};
@@ -382,6 +382,32 @@ fn a_hospital(rt: HostRuntime) -> Result<(), Fail> {
         &mut sink,
     )?;
     assert_eq!(rt; sink.into_inner().as_slice(), HOSPITAL.as_bytes());
+    Ok(())
+}
+
+#[test]
+fn the_last_lines_are_written_one_by_one(rt: HostRuntime) -> Result<(), Fail> {
+    let alloc = rt.alloc();
+    let case = hospital(alloc)?;
+    if case.graph.atoms() != 4 || case.cover.sites() != 2 {
+        return Err(Fail::from(NoCase));
+    }
+    let mark = SiteMark {
+        executed: set(false, true, true, false),
+        pending: set(false, false, false, true),
+        included: set(false, false, false, false),
+    };
+    let mut text = Vec::new(alloc);
+    write_site(case.cover.name(SiteId(1)), &mark, &case.graph, &mut text)?;
+    text.push(b'\n')?;
+    write_verdict(Some(EventId(3)), &case.graph, &mut text)?;
+    text.push(b'\n')?;
+    write_verdict(None, &case.graph, &mut text)?;
+    text.push(b'\n')?;
+    write_end(12, &mut text)?;
+    let lines =
+        "site nurse executed s,gm pending dt included -\nverdict waits dt\nverdict accepting\nend 12";
+    assert_eq!(rt; text.as_slice(), lines.as_bytes());
     Ok(())
 }
 
