@@ -5,16 +5,10 @@ use Rattle.std.proofs.Math.Nat.{add-zero}
 use Rattle.std.proofs.lemmas.Bool.{cases_eq, eq-eqb, ne_eqb}
 use Rattle.std.proofs.lemmas.List.{get_or_default, get_or-set_same, get_or-set_other}
 use Rattle.std.proofs.lemmas.List.Folds.{list_any-append}
-use Rattle.std.proofs.lemmas.List.Sums.{fold_push, sum_by_push}
-use Rattle.dcr_graph.specs.Rules.{Rules}
-use Rattle.dcr_graph.specs.declared.marking.Marking.{Marking}
-use Rattle.dcr_journal.specs.Run.{stepped_by, after, made_by}
+use Rattle.std.proofs.lemmas.List.Sums.{sum_by_push}
+use Rattle.dcr_journal.specs.Run.{made_by}
 use Rattle.dcr_journal.specs.declared.call.Entry.{Entry}
 use Rattle.dcr_replay.specs.EntryLines.{is_faulted, has_fault}
-
--- the marking
-pub after_next : (G : Rules) (M : Marking) (J : List Entry) (entry : Entry) → after G M (J ++ entry ∷ []) ≡ stepped_by G (after G M J) entry.call entry.outcome
-after_next G M J entry = fold_push (λ N (e : Entry). stepped_by G N e.call e.outcome) M J entry
 
 -- one entry is a fault: the last, where there was none before
 pub fault_next : (J : List Entry) (entry : Entry) → has_fault J ≡ false → has_fault (J ++ entry ∷ []) ≡ is_faulted entry.outcome

@@ -3,7 +3,7 @@ use Rattle.std.proofs.Common.{◌≡◌, ℕ, ◌<◌, true, eqb, List, [], ◌�
 use Rattle.std.specs.List.{All, list_all}
 use Rattle.std.specs.Option.{MatchOption}
 use Rattle.std.proofs.lemmas.Bool.{and_from}
-use Rattle.std.proofs.lemmas.List.{get_or-map, length-map, length-take}
+use Rattle.std.proofs.lemmas.List.{length-map, length-take}
 use Rattle.std.proofs.lemmas.List.Sums.{count_by-le-length}
 use Rattle.std.proofs.lemmas.List.Elements.{All-nil}
 use Rattle.std.proofs.lemmas.Option.{same_Some, slice_get-get_or}
@@ -13,11 +13,9 @@ use Rattle.dcr_graph.specs.Projection.{HasRoom}
 use Rattle.dcr_graph.specs.declared.marking.Marking.{Marking}
 use Rattle.dcr_nest.specs.FlatRelation.{flat_relation}
 use Rattle.dcr_nest.specs.Nest.{Nest, names_of, parents_of}
-use Rattle.dcr_nest.specs.Tree.{atoms}
 use Rattle.dcr_nest.specs.declared.node.Node.{Node}
 use Rattle.dcr_nest.specs.declared.node.Version.{Version}
 use Rattle.dcr_nest.specs.declared.node.Version.TheVariants.{V1, V2}
-use Rattle.dcr_nest.proofs.AtomLemmas.{atoms-within}
 use Rattle.dcr_nest.proofs.FlatLemmas.{all_atoms, distinct_atoms, length-of_atoms}
 use Rattle.dcr_proj.specs.CoverValue.{Owners}
 use Rattle.dcr_journal.specs.Run.{marks_at}

@@ -14,7 +14,7 @@ ghost use Rattle.dcr_replay.specs.Tracks.{tracked_of};
 ghost use Rattle.dcr_proj.specs.CoverValue.{IsCover};
 
 use crate::tracked::{Tracked, cut};
-use dcr_graph::{Cause, SiteMark};
+use dcr_graph::SiteMark;
 use dcr_journal::{Call, Outcome};
 use dcr_mark::Plain;
 use dcr_proj::Cover;
@@ -32,10 +32,7 @@ pub(crate) fn answer(plain: &Plain<'_>, cover: &Cover, tracked: &[Tracked], call
         Call::Exec(i, e) => execution(plain, cover.owned(i), e),
         Call::Look(i) => Outcome::Marks(look(plain, cover, tracked, i)),
         Call::Enabled(i) => Outcome::Can(plain.enabled_in(cover.owned(i))),
-        Call::Accepting => match plain.waits() {
-            None => Outcome::AllDone,
-            Some(e) => Outcome::Waits(e),
-        },
+        Call::Accepting => Outcome::verdict(plain.waits()),
     }
 }
 
@@ -47,12 +44,7 @@ fn execution(plain: &Plain<'_>, owned: &EventSet, e: EventId) -> Outcome
     if !owned.contains(e) {
         return Outcome::NotHere;
     }
-    match plain.why(e) {
-        None => Outcome::Done,
-        Some(Cause::Excluded) => Outcome::Excluded,
-        Some(Cause::Condition(EventId(c))) => Outcome::Condition(EventId(c)),
-        Some(Cause::Milestone(EventId(m))) => Outcome::Milestone(EventId(m)),
-    }
+    Outcome::of_cause(plain.why(e))
 }
 
 // The marks of a site.

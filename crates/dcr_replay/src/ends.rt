@@ -20,9 +20,8 @@ use crate::lines::Lines;
 use crate::tracked::cut;
 use crate::verdict::{Verdict, Wrong};
 use dcr_graph::{Graph, Name, SiteMark};
-use dcr_line::{write_event, write_mark};
+use dcr_report::{write_end, write_site, write_verdict};
 use dcr_set::{EventId, NoMemory};
-use dcr_text::decimal;
 use std::alloc::Global;
 
 /// The verdict over the lines behind the entries of the run.
@@ -112,10 +111,7 @@ fn site_line(
     ensures { IfOk result (λ text. text.items ≡ site_text graph.now.names site.now mark.now) }
 {
     let mut text = Vec::new(alloc);
-    text.extend_from_slice(b"site ")?;
-    text.extend_from_slice(site.text().as_bytes())?;
-    text.extend_from_slice(b" ")?;
-    write_mark(mark, graph, &mut text)?;
+    write_site(site, mark, graph, &mut text)?;
     Ok(text)
 }
 
@@ -125,13 +121,7 @@ fn verdict_line(alloc: Global, waits: Option<EventId>, graph: &Graph) -> Result<
     ensures { IfOk result (λ text. text.items ≡ verdict_text graph.now.names waits) }
 {
     let mut text = Vec::new(alloc);
-    match waits {
-        None => text.extend_from_slice(b"verdict accepting")?,
-        Some(e) => {
-            text.extend_from_slice(b"verdict waits ")?;
-            write_event(e, graph, &mut text)?;
-        }
-    }
+    write_verdict(waits, graph, &mut text)?;
     Ok(text)
 }
 
@@ -140,7 +130,6 @@ fn end_line(alloc: Global, count: u32) -> Result<Vec<u8>, NoMemory>
     ensures { IfOk result (λ text. text.items ≡ codes "end " ++ decimal count) }
 {
     let mut text = Vec::new(alloc);
-    text.extend_from_slice(b"end ")?;
-    decimal(u64::from(count), &mut text)?;
+    write_end(count, &mut text)?;
     Ok(text)
 }

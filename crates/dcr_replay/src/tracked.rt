@@ -1,14 +1,13 @@
 // The marks of a site, cut from a marking of all atoms.
 ghost use Rattle.std.specs.Prelude.{◌≡◌, length, map, IfOk};
 ghost use Rattle.std.specs.List.{All};
-ghost use Rattle.dcr_set.specs.EventSet.{has, those, union, intersection};
+ghost use Rattle.dcr_set.specs.EventSet.{intersection};
 ghost use Rattle.dcr_graph.specs.GraphValue.{rules_of};
-ghost use Rattle.dcr_graph.specs.Projection.{leads_to, project, HasRoom};
 ghost use Rattle.dcr_replay.specs.Tracks.{tracked_of};
 
 use dcr_graph::{Graph, Kind, Marking, SiteMark};
 use dcr_proj::Cover;
-use dcr_set::{EventId, EventSet, NoMemory};
+use dcr_set::{EventSet, NoMemory};
 use std::alloc::Global;
 
 /// The atoms whose executed, pending and included marks a site tracks.
@@ -41,43 +40,16 @@ fn tracked_by(graph: &Graph, owned: &EventSet) -> Tracked
     requires { length owned.now ≡ length graph.now.names }
     ensures { result ≡ tracked_of (rules_of graph.now) owned.now }
 {
-    let conditions = sources_into(graph, Kind::Condition, owned);
-    let milestones = sources_into(graph, Kind::Milestone, owned);
-    let executed = joined(owned, &conditions);
-    let pending = joined(owned, &milestones);
-    let included = joined(owned, &joined(&conditions, &milestones));
+    let conditions = graph.sources_into(Kind::Condition, owned);
+    let milestones = graph.sources_into(Kind::Milestone, owned);
+    let executed = owned.joined(&conditions);
+    let pending = owned.joined(&milestones);
+    let included = owned.joined(&conditions.joined(&milestones));
     Tracked {
         executed,
         pending,
         included,
     }
-}
-
-// The atoms that are related by the kind to one of the targets.
-fn sources_into(graph: &Graph, kind: Kind, targets: &EventSet) -> EventSet
-    requires { length targets.now ≡ length graph.now.names }
-    ensures sources { result ≡ those (length graph.now.names) (leads_to (rules_of graph.now) kind (has targets.now)) }
-    ensures room { length result ≡ length graph.now.names }
-{
-    let mut sources = EventSet::new(graph.atoms());
-    for number in 0..graph.atoms() {
-        let e = EventId(number);
-        if targets.meets(graph.targets(kind, e)) {
-            sources.insert(e);
-        }
-    }
-    sources
-}
-
-// What is in one or the other.
-fn joined(first: &EventSet, second: &EventSet) -> EventSet
-    requires { length first.now ≡ length second.now }
-    ensures joined { result ≡ union first.now second.now }
-    ensures room { length result ≡ length first.now }
-{
-    let mut both = first.copy();
-    both.union_with(second);
-    both
 }
 
 /// The marks of the marking that the site tracks.
@@ -90,18 +62,8 @@ pub(crate) fn cut(tracked: &Tracked, marking: &Marking) -> SiteMark
     ensures included { result.included ≡ intersection marking.now.included tracked.now.included }
 {
     SiteMark {
-        executed: common(&marking.executed, &tracked.executed),
-        pending: common(&marking.pending, &tracked.pending),
-        included: common(&marking.included, &tracked.included),
+        executed: marking.executed.common(&tracked.executed),
+        pending: marking.pending.common(&tracked.pending),
+        included: marking.included.common(&tracked.included),
     }
-}
-
-// What is in both.
-fn common(first: &EventSet, second: &EventSet) -> EventSet
-    requires { length first.now ≡ length second.now }
-    ensures { result ≡ intersection first.now second.now }
-{
-    let mut both = first.copy();
-    both.keep_with(second);
-    both
 }

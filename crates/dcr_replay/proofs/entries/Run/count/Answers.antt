@@ -2,7 +2,8 @@ use Rattle.std.proofs.Common.{◌+◌, sym, ap, ◌∙◌, arith}
 use Rattle.std.proofs.lemmas.List.{length_push}
 use Rattle.dcr_graph.specs.GraphValue.{rules_of}
 use Rattle.dcr_journal.specs.Run.{stepped_by}
-use Rattle.dcr_replay.proofs.CountLemmas.{after_next, fault_next, counts_next}
+use Rattle.dcr_journal.proofs.RunLemmas.{after_next}
+use Rattle.dcr_replay.proofs.CountLemmas.{fault_next, counts_next}
 use Rattle.dcr_replay.proofs.entries.Run.count.Goals as goal
 
 pub returns-clause-stands : goal.returns-clause-stands
