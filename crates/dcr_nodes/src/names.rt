@@ -86,6 +86,7 @@ fn read_name(alloc: Global, i: usize, text: &str) -> Result<Name, ReadStop>
     ensures name { IfOk result (λ name. name ≡ text.now) }
     ensures spelled { OnOk result (is_name text.now ≡ true) }
     ensures refused { IfErr result (λ stop. stop ≢ NoMemory → (stop ≡ EventName i) × (is_name text.now ≡ false)) }
+    ensures no_name { is_name text.now ≡ false → result ≡ Err (EventName i) }
 {
     match Name::read(alloc, text) {
         Ok(name) => Ok(name),
