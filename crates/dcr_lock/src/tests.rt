@@ -106,6 +106,15 @@ fn two_places(rt: HostRuntime) -> Result<(), Fail> {
     Ok(())
 }
 
+// No clause says that a row of so many is opened.
+#[test]
+fn a_row_has_the_most_places(rt: HostRuntime) -> Result<(), Fail> {
+    let row = opened(rt.alloc(), &[7; 64])?;
+    assert_eq!(rt; row.places(), 64);
+    assert_eq!(rt; row.lock(&rt, 63).keep().amount, 7);
+    Ok(())
+}
+
 // Adds 1 at each place in turn, ten thousand times.
 fn take_turns<R: Wait>(rt: &R, row: &Row<Lot>, first: usize)
     requires { row.now ≡ 4 }
