@@ -1,4 +1,4 @@
--- That there are reports: of an empty graph, of every graph with a cover by one site, of every marking without an event.
+-- What a report may always have: the graph without a node, a cover by one site, and a marking without a mark.
 use Rattle.std.proofs.Common.{◌≡◌, ℕ, ◌<◌, true, false, [], ◌∷◌, length, codes, refl, arith}
 use Rattle.std.specs.Prelude.{IsUtf8}
 use Rattle.std.proofs.lemmas.Bool.{or_left}
