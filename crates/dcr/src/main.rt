@@ -1,6 +1,10 @@
 //! The program `dcr`: standard input to standard output, and the status of the run.
 #![tactic(auto)]
 
+ghost use Rattle.std.specs.Prelude.{◌≡◌};
+ghost use Rattle.std.specs.Process.{exit_status};
+ghost use Rattle.dcr_base.specs.Status.{code_of};
+
 use dcr_app::{Status, dcr};
 use dcr_base::{StdSink, StdSource};
 use std::process::ExitCode;
@@ -11,12 +15,19 @@ fn main(rt: HostRuntime) -> ExitCode {
         Ok(words) => words,
         // A word that is no text is no command's, and no words are none either.
         Err(error) if error.kind() == io::ErrorKind::InvalidData => Vec::new(rt.alloc()),
-        Err(_) => return ExitCode::from(Status::NoMemory.code()),
+        Err(_) => return exit_of(Status::NoMemory),
     };
     let mut input = StdSource::new(rt.reader());
     let mut output = StdSink::new(io::writer(&rt));
     let end = dcr(&rt, rt.alloc(), &words, &mut input, &mut output);
-    ExitCode::from(end.status.code())
+    exit_of(end.status)
+}
+
+// The process ends with the number of the status.
+fn exit_of(status: Status) -> ExitCode
+    ensures { exit_status result ≡ code_of status }
+{
+    ExitCode::from(status.code())
 }
 
 // The words after the program's name. Each is pushed by itself, so that every growth that is refused is told.

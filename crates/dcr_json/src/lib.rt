@@ -8,6 +8,8 @@ mod laws;
 #[cfg(test)]
 mod limit_tests;
 mod read;
+#[cfg(test)]
+mod refusal_tests;
 mod session_list;
 mod sites;
 #[cfg(test)]
