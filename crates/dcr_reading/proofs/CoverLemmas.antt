@@ -1,5 +1,5 @@
 -- The sites of an accepted cover, read again, are told as the cover.
-use Rattle.std.proofs.Common.{◌≡◌, ℕ, zero, suc, ◌+◌, ◌<◌, inl, inr, Bool, true, false, not, eqb, ◌||◌, List, [], length, get_or, map, Option, Some, None, is_some, Result, Ok, Err, refl, sym, ap, ◌∙◌, arith}
+use Rattle.std.proofs.Common.{◌≡◌, ℕ, zero, suc, ◌+◌, ◌<◌, inl, inr, Bool, true, false, not, eqb, ◌||◌, List, [], length, get_or, map, Option, Some, None, is_some, Ok, refl, sym, ap, ◌∙◌, arith}
 use Rattle.std.specs.List.{range_with_len}
 use Rattle.std.specs.Option.{option_map_or}
 use Rattle.std.specs.Str.{bytes_eq}
@@ -24,10 +24,7 @@ use Rattle.dcr_nest.proofs.TreeLemmas.{meets_at_top, meets_once, parent_within}
 use Rattle.dcr_proj.specs.CoverValue.{Owners}
 use Rattle.dcr_cover.specs.Told.{Written, atom_count, node_named, site_at, cover_told}
 use Rattle.dcr_cover.specs.Refusals.{text_at, HasGoodName, IsGood, Owns, SomeOwns, AreCover}
-use Rattle.dcr_cover.specs.declared.text.CoverStop.{CoverStop}
-use Rattle.dcr_cover.proofs.RefusalLemmas.{cover_from_told, told_from_cover}
-use Rattle.dcr_shape.specs.declared.stop.ReadStop.{ReadStop}
-use Rattle.dcr_shape.specs.declared.written.Written.{Written as FileWritten}
+use Rattle.dcr_cover.proofs.RefusalLemmas.{told_from_cover}
 use Rattle.dcr_canon.specs.CoverText.{cover_value}
 use Rattle.dcr_reading.specs.Accepted.{AreAllNames, IsAcceptedCover, atom_names}
 use Rattle.dcr_reading.specs.File.{cover_file}

@@ -1,4 +1,4 @@
-use Rattle.std.proofs.Common.{List, Ok, ap, subst, sym}
+use Rattle.std.proofs.Common.{List, Ok, subst, sym}
 use Rattle.dcr_graph.specs.GraphValue.{rules_of}
 use Rattle.dcr_graph.specs.Projection.{HasRoom}
 use Rattle.dcr_graph.specs.Rules.{Rules}
