@@ -19,6 +19,3 @@ pub use status::Status;
 pub use std_sink::StdSink;
 pub use std_source::StdSource;
 pub use writing::{WriteFault, write_all};
-
-#[cfg(test)]
-mod tests;

@@ -6,8 +6,6 @@ mod events;
 mod graph;
 mod laws;
 mod relations;
-#[cfg(test)]
-mod tests;
 
 pub use cover::cover_text;
 pub use graph::graph_text;

@@ -6,8 +6,6 @@ mod index;
 mod laws;
 mod meaning;
 mod sites;
-#[cfg(test)]
-mod tests;
 mod text;
 
 pub use cover::{check, check_texts};

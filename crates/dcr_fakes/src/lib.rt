@@ -5,8 +5,6 @@
 mod calls;
 mod mem_sink;
 mod mem_source;
-#[cfg(test)]
-mod tests;
 
 pub use mem_sink::MemSink;
 pub use mem_source::MemSource;

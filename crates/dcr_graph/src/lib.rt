@@ -7,8 +7,6 @@ mod label;
 mod marking;
 mod name;
 mod table;
-#[cfg(test)]
-mod tests;
 
 pub use graph::{Graph, GraphStop};
 pub use kind::{Cause, Kind};

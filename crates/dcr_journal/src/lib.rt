@@ -6,8 +6,6 @@ mod call;
 mod closed;
 mod journal;
 mod list;
-#[cfg(test)]
-mod tests;
 
 pub use call::{Call, Entry, Outcome};
 pub use closed::Closed;

@@ -5,15 +5,9 @@ mod calls;
 mod case;
 mod judge;
 mod laws;
-#[cfg(test)]
-mod limit_tests;
 mod read;
-#[cfg(test)]
-mod refusal_tests;
 mod session_list;
 mod sites;
-#[cfg(test)]
-mod tests;
 
 pub use case::{Case, CaseStop};
 pub use dcr_canon::{cover_text, graph_text};

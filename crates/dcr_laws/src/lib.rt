@@ -5,7 +5,5 @@
 #![tactic(auto)]
 
 mod laws;
-#[cfg(test)]
-mod tests;
 
 pub use laws::{a_run_is_done, l1, l2, l3, l4, l6, told_has_each_call};

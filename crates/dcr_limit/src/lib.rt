@@ -4,8 +4,6 @@
 mod atoms;
 mod laws;
 mod limits;
-#[cfg(test)]
-mod tests;
 
 pub use laws::limits_are_the_formats;
 pub use limits::{

@@ -7,8 +7,6 @@ pub mod laws;
 mod mark;
 mod pieces;
 mod put;
-#[cfg(test)]
-mod tests;
 mod write;
 
 pub use call::read_call;

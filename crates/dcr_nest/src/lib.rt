@@ -5,8 +5,6 @@ mod flatten;
 mod laws;
 mod nested;
 mod node;
-#[cfg(test)]
-mod tests;
 mod tree;
 
 pub use laws::nodes_are_below_as_parents_lead;

@@ -7,8 +7,6 @@ mod names;
 mod nodes;
 mod opening;
 mod relations;
-#[cfg(test)]
-mod tests;
 mod tree;
 
 pub use laws::{nodes_are_the_formats, shaped_files_have_their_kinds};

@@ -3,8 +3,6 @@
 
 mod block;
 mod pool;
-#[cfg(test)]
-mod tests;
 
 pub use block::Block;
 pub use pool::Pool;

@@ -5,8 +5,6 @@ mod cover;
 mod network;
 mod projection;
 mod rows;
-#[cfg(test)]
-mod tests;
 
 pub use cover::Cover;
 pub use network::{Network, participants_are_those_who_hear};

@@ -8,8 +8,6 @@ mod file;
 mod graph;
 mod laws;
 mod sites;
-#[cfg(test)]
-mod tests;
 mod value;
 
 pub use accepted::{see_cover, see_graph};

@@ -9,8 +9,6 @@ mod entries;
 mod head;
 mod laws;
 mod lines;
-#[cfg(test)]
-mod tests;
 mod tracked;
 mod verdict;
 

@@ -8,6 +8,3 @@ mod write;
 
 pub use report::{ReportStop, write_report};
 pub use write::{write_end, write_site, write_verdict};
-
-#[cfg(test)]
-mod tests;

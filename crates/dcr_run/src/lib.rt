@@ -4,8 +4,6 @@
 mod run;
 mod session;
 mod sites;
-#[cfg(test)]
-mod tests;
 
 pub use run::run_case;
 pub use session::run_sessions;

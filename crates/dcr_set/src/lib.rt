@@ -5,8 +5,6 @@ mod id;
 mod iter;
 mod laws;
 mod set;
-#[cfg(test)]
-mod tests;
 mod words;
 
 pub use id::{EventId, MAX_ATOMS, NoMemory, SiteId};

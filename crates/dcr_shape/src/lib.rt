@@ -8,8 +8,6 @@ mod relations;
 mod sessions;
 mod sites;
 mod stop;
-#[cfg(test)]
-mod tests;
 mod texts;
 mod value;
 mod version;

@@ -2,7 +2,5 @@
 #![tactic(auto)]
 
 mod site;
-#[cfg(test)]
-mod tests;
 
 pub use site::{Decision, Site};

@@ -1,5 +1,0 @@
-use Rattle.dcr_graph.specs.Pairs.{AreInRange}
-use Rattle.dcr_graph.proofs.tests.graph_of.Given as goal
-
-abbrev pub invariant-loop-pair : goal.invariant-loop-pair
-invariant-loop-pair l = AreInRange 3 l.related.items

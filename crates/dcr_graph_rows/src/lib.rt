@@ -1,0 +1,21 @@
+//! Worked rows over graphs of four atoms: the plain engine, projections, sites, journals, runs and lines.
+#![tactic(auto)]
+
+#[cfg(test)]
+mod build;
+#[cfg(test)]
+mod graph;
+#[cfg(test)]
+mod journal;
+#[cfg(test)]
+mod laws;
+#[cfg(test)]
+mod line;
+#[cfg(test)]
+mod mark;
+#[cfg(test)]
+mod proj;
+#[cfg(test)]
+mod run;
+#[cfg(test)]
+mod site;

@@ -1,0 +1,316 @@
+// Worked rows: what sites decide and mark in small graphs, told by hand, and that each call can succeed.
+ghost use Rattle.std.specs.Prelude.{◌≡◌, ◌<◌, length, IfOk};
+ghost use Rattle.dcr_graph.specs.Projection.{HasRoom};
+
+use crate::build::{Pair, event_set, graph_of, members};
+use dcr_graph::{Cause, Graph, Kind, Marking};
+use dcr_proj::project;
+use dcr_set::{EventId, EventSet};
+use dcr_site::{Decision, Site};
+use std::alloc::Global;
+use std::test::Fail;
+
+const PM: EventId = EventId(0);
+
+const S: EventId = EventId(1);
+
+const GM: EventId = EventId(2);
+
+// The doctor prescribes and signs, and then the nurse is to give.
+const MEDICATION: [Pair; 4] = [
+    (Kind::Condition, 0, 1),
+    (Kind::Condition, 1, 2),
+    (Kind::Response, 0, 1),
+    (Kind::Response, 0, 2),
+];
+
+// Nothing executed, these pending, all included.
+fn opening(pending: &[u16]) -> Marking
+    ensures { HasRoom 4 result }
+{
+    Marking {
+        executed: event_set(&[]),
+        pending: event_set(pending),
+        included: event_set(&[0, 1, 2]),
+    }
+}
+
+// The site that owns these, opened at this marking, once it has heard of these executions.
+fn site_after(
+    alloc: Global,
+    graph: &Graph,
+    own: &EventSet,
+    start: &Marking,
+    executed: &[u16],
+) -> Result<Site, Fail>
+    requires atoms { length graph.now.names ≡ 4 }
+    requires own { length own.now ≡ 4 }
+    requires start { HasRoom 4 start.now }
+    ensures { IfOk result (λ site. length site.projection.own ≡ 4) }
+{
+    let projection = project(alloc, graph, own)?;
+    let alphabet = projection.alphabet().copy();
+    let mut site = Site::open(projection, start);
+    for number in executed {
+        let e = EventId(*number);
+        if alphabet.contains(e) {
+            site.apply(e);
+        }
+    }
+    Ok(site)
+}
+
+#[test]
+fn projections_keep_what_their_sites_need(rt: HostRuntime) -> Result<(), Fail> {
+    let graph = graph_of(rt.alloc(), &MEDICATION)?;
+    let doctor = project(rt.alloc(), &graph, &event_set(&[0, 1]))?;
+    let prescribed_and_signed = 0b0011;
+    assert_eq!(rt; members(doctor.own()), prescribed_and_signed);
+    assert_eq!(rt; members(doctor.tracked_in()), prescribed_and_signed);
+    assert_eq!(rt; members(doctor.tracked_ex()), prescribed_and_signed);
+    assert_eq!(rt; members(doctor.tracked_re()), prescribed_and_signed);
+    assert_eq!(rt; members(doctor.alphabet()), prescribed_and_signed);
+    let nurse = project(rt.alloc(), &graph, &event_set(&[2]))?;
+    assert_eq!(rt; members(nurse.own()), 0b0100);
+    assert_eq!(rt; members(nurse.tracked_in()), 0b0110);
+    assert_eq!(rt; members(nurse.tracked_ex()), 0b0110);
+    assert_eq!(rt; members(nurse.tracked_re()), 0b0100);
+    assert_eq!(rt; members(nurse.alphabet()), 0b0111);
+    Ok(())
+}
+
+// What a site answers, for which event it waits, and which events are executed, pending and included there.
+type Told = (Decision, Option<EventId>, [u8; 3]);
+
+// A site that owns some of three atoms with these pairs, once it has heard of these executions.
+fn told(
+    alloc: Global,
+    pairs: &[Pair],
+    own: &[u16],
+    pending: &[u16],
+    executed: &[u16],
+    asked: u16,
+) -> Result<Told, Fail>
+    requires { asked < 3 }
+{
+    let graph = graph_of(alloc, pairs)?;
+    let site = site_after(alloc, &graph, &event_set(own), &opening(pending), executed)?;
+    let mark = site.mark();
+    let marks = [
+        members(&mark.executed),
+        members(&mark.pending),
+        members(&mark.included),
+    ];
+    Ok((site.decide(EventId(asked)), site.first_waiting(), marks))
+}
+
+const NONE: u8 = 0;
+
+const ALL: u8 = 0b0111;
+
+#[test]
+fn a_nurse_waits_for_a_doctor(rt: HostRuntime) -> Result<(), Fail> {
+    let tracked = 0b0110;
+    let opened = told(rt.alloc(), &MEDICATION, &[2], &[], &[], 2)?;
+    assert_eq!(rt;
+        opened,
+        (
+            Decision::Blocked(Cause::Condition(S)),
+            None,
+            [NONE, NONE, tracked]
+        )
+    );
+    let prescribed = told(rt.alloc(), &MEDICATION, &[2], &[], &[0], 2)?;
+    assert_eq!(rt;
+        prescribed,
+        (
+            Decision::Blocked(Cause::Condition(S)),
+            Some(GM),
+            [NONE, 0b0100, tracked]
+        )
+    );
+    let signed = told(rt.alloc(), &MEDICATION, &[2], &[], &[0, 1], 2)?;
+    assert_eq!(rt;
+        signed,
+        (Decision::Enabled, Some(GM), [0b0010, 0b0100, tracked])
+    );
+    let given = told(rt.alloc(), &MEDICATION, &[2], &[], &[0, 1, 2], 2)?;
+    assert_eq!(rt; given, (Decision::Enabled, None, [tracked, NONE, tracked]));
+    Ok(())
+}
+
+#[test]
+fn a_doctor_prescribes_and_signs(rt: HostRuntime) -> Result<(), Fail> {
+    let tracked = 0b0011;
+    let elsewhere = told(rt.alloc(), &MEDICATION, &[0, 1], &[], &[], 2)?;
+    assert_eq!(rt; elsewhere, (Decision::NotHere, None, [NONE, NONE, tracked]));
+    let unsigned = told(rt.alloc(), &MEDICATION, &[0, 1], &[], &[], 1)?;
+    assert_eq!(rt;
+        unsigned,
+        (
+            Decision::Blocked(Cause::Condition(PM)),
+            None,
+            [NONE, NONE, tracked]
+        )
+    );
+    let opened = told(rt.alloc(), &MEDICATION, &[0, 1], &[], &[], 0)?;
+    assert_eq!(rt; opened, (Decision::Enabled, None, [NONE, NONE, tracked]));
+    let prescribed = told(rt.alloc(), &MEDICATION, &[0, 1], &[], &[0], 1)?;
+    assert_eq!(rt;
+        prescribed,
+        (Decision::Enabled, Some(S), [0b0001, 0b0010, tracked])
+    );
+    let signed = told(rt.alloc(), &MEDICATION, &[0, 1], &[], &[0, 1], 1)?;
+    assert_eq!(rt; signed, (Decision::Enabled, None, [tracked, NONE, tracked]));
+    Ok(())
+}
+
+#[test]
+fn responses_come_after_cancels(rt: HostRuntime) -> Result<(), Fail> {
+    let first = 0b0001;
+    let second = 0b0010;
+    let own_response = told(
+        rt.alloc(),
+        &[(Kind::Response, 0, 0)],
+        &[0, 1, 2],
+        &[],
+        &[0],
+        0,
+    )?;
+    assert_eq!(rt;
+        own_response,
+        (Decision::Enabled, Some(PM), [first, first, ALL])
+    );
+    let cancelled = told(
+        rt.alloc(),
+        &[(Kind::Cancel, 0, 1)],
+        &[0, 1, 2],
+        &[1, 2],
+        &[0],
+        1,
+    )?;
+    assert_eq!(rt;
+        cancelled,
+        (Decision::Enabled, Some(GM), [first, 0b0100, ALL])
+    );
+    let pairs = [(Kind::Response, 0, 1), (Kind::Milestone, 1, 2)];
+    let awaited = told(rt.alloc(), &pairs, &[0, 1, 2], &[], &[0], 2)?;
+    assert_eq!(rt;
+        awaited,
+        (
+            Decision::Blocked(Cause::Milestone(S)),
+            Some(S),
+            [first, second, ALL]
+        )
+    );
+    let pairs = [(Kind::Cancel, 0, 1), (Kind::Response, 0, 1)];
+    let both = told(rt.alloc(), &pairs, &[0, 1, 2], &[], &[0], 1)?;
+    assert_eq!(rt; both, (Decision::Enabled, Some(S), [first, second, ALL]));
+    Ok(())
+}
+
+#[test]
+fn an_excluded_event_is_blocked_and_blocks_none(rt: HostRuntime) -> Result<(), Fail> {
+    let first = 0b0001;
+    let second = 0b0010;
+    let without_s = 0b0101;
+    let pairs = [(Kind::Condition, 1, 2), (Kind::Exclude, 0, 1)];
+    let open = told(rt.alloc(), &pairs, &[0, 1, 2], &[], &[0], 2)?;
+    assert_eq!(rt; open, (Decision::Enabled, None, [first, NONE, without_s]));
+    let shut = told(rt.alloc(), &pairs, &[0, 1, 2], &[1], &[0], 1)?;
+    assert_eq!(rt;
+        shut,
+        (
+            Decision::Blocked(Cause::Excluded),
+            None,
+            [first, second, without_s]
+        )
+    );
+    let pairs = [(Kind::Exclude, 0, 1), (Kind::Include, 2, 1)];
+    let again = told(rt.alloc(), &pairs, &[0, 1, 2], &[1], &[0, 2], 1)?;
+    assert_eq!(rt;
+        again,
+        (Decision::Enabled, Some(S), [without_s, second, ALL])
+    );
+    Ok(())
+}
+
+#[test]
+fn the_least_condition_is_told_before_a_milestone(rt: HostRuntime) -> Result<(), Fail> {
+    let first = 0b0001;
+    let of_itself = told(
+        rt.alloc(),
+        &[(Kind::Condition, 0, 0)],
+        &[0, 1, 2],
+        &[],
+        &[],
+        0,
+    )?;
+    assert_eq!(rt;
+        of_itself,
+        (
+            Decision::Blocked(Cause::Condition(PM)),
+            None,
+            [NONE, NONE, ALL]
+        )
+    );
+    let pairs = [
+        (Kind::Milestone, 0, 2),
+        (Kind::Condition, 1, 2),
+        (Kind::Condition, 0, 2),
+    ];
+    let least = told(rt.alloc(), &pairs, &[0, 1, 2], &[0], &[], 2)?;
+    assert_eq!(rt;
+        least,
+        (
+            Decision::Blocked(Cause::Condition(PM)),
+            Some(PM),
+            [NONE, first, ALL]
+        )
+    );
+    let pending = told(
+        rt.alloc(),
+        &[(Kind::Milestone, 0, 1)],
+        &[0, 1, 2],
+        &[0, 2],
+        &[],
+        1,
+    )?;
+    assert_eq!(rt;
+        pending,
+        (
+            Decision::Blocked(Cause::Milestone(PM)),
+            Some(PM),
+            [NONE, 0b0101, ALL]
+        )
+    );
+    let met = told(
+        rt.alloc(),
+        &[(Kind::Milestone, 0, 1)],
+        &[0, 1, 2],
+        &[0, 2],
+        &[0],
+        1,
+    )?;
+    assert_eq!(rt; met, (Decision::Enabled, Some(GM), [first, 0b0100, ALL]));
+    Ok(())
+}
+
+// The events that may be executed at a site that owns some of three atoms with these pairs, once it has
+// heard of these executions.
+fn enabled(alloc: Global, pairs: &[Pair], own: &[u16], executed: &[u16]) -> Result<u8, Fail> {
+    let graph = graph_of(alloc, pairs)?;
+    let site = site_after(alloc, &graph, &event_set(own), &opening(&[]), executed)?;
+    Ok(members(&site.can()))
+}
+
+#[test]
+fn a_site_tells_which_of_its_events_are_enabled(rt: HostRuntime) -> Result<(), Fail> {
+    let first = 0b0001;
+    let last = 0b0100;
+    assert_eq!(rt; enabled(rt.alloc(), &MEDICATION, &[0, 1], &[])?, first);
+    assert_eq!(rt; enabled(rt.alloc(), &MEDICATION, &[2], &[0])?, NONE);
+    assert_eq!(rt; enabled(rt.alloc(), &MEDICATION, &[2], &[0, 1])?, last);
+    assert_eq!(rt; enabled(rt.alloc(), &[], &[0, 1, 2], &[])?, ALL);
+    Ok(())
+}

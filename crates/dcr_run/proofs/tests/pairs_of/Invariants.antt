@@ -1,5 +1,0 @@
-use Rattle.dcr_graph.specs.Pairs.{AreInRange}
-use Rattle.dcr_run.proofs.tests.pairs_of.Given as goal
-
-abbrev pub invariant-loop-pair : goal.invariant-loop-pair
-invariant-loop-pair l = AreInRange 4 l.related.items

@@ -1,0 +1,13 @@
+//! Worked rows of the values: sets, pools, sources and sinks, decimal text, and the stand-ins of the outside.
+#![tactic(auto)]
+
+#[cfg(test)]
+mod base;
+#[cfg(test)]
+mod fakes;
+#[cfg(test)]
+mod pool;
+#[cfg(test)]
+mod set;
+#[cfg(test)]
+mod text;
