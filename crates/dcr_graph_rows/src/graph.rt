@@ -190,6 +190,16 @@ fn marks_are_copied(rt: HostRuntime) {
 }
 
 #[test]
+fn names_and_labels_are_copied(rt: HostRuntime) -> Result<(), Fail> {
+    let name = Name::read(rt.alloc(), "pm")?;
+    assert_eq!(rt; name.copy(rt.alloc())?.text(), "pm");
+    let label = Label::of_name(rt.alloc(), &name)?;
+    assert_eq!(rt; label.text(), "pm");
+    assert_eq!(rt; label.copy(rt.alloc())?.text(), "pm");
+    Ok(())
+}
+
+#[test]
 fn stops_say_why(rt: HostRuntime) -> Result<(), Fail> {
     let alloc = rt.alloc();
     let clash = GraphStop::Clash {

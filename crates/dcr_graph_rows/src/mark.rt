@@ -1,4 +1,5 @@
-// Graphs of three atoms, worked out by hand: the cause of an event, and the marking and the verdict after it.
+// Worked rows: the cause of an event, and the marking and the verdict after it, in small graphs, by hand.
+// They are over the first three of the four atoms, called a, b and c here; the fourth is never included.
 ghost use Rattle.std.specs.Prelude.{◌≡◌, ◌<◌, length};
 ghost use Rattle.dcr_graph.specs.Projection.{HasRoom};
 
@@ -7,6 +8,7 @@ use dcr_graph::{Cause, Kind, Marking};
 use dcr_mark::Plain;
 use dcr_set::{EventId, EventSet};
 use std::alloc::Global;
+use std::process::Abort;
 use std::test::Fail;
 
 const A: u16 = 0;
@@ -71,10 +73,36 @@ fn marks_of(marking: &Marking) -> Seen {
     ]
 }
 
-// Why the event is blocked and which is waited for, and then the marks and which is waited for after it.
-type Told = (Option<Cause>, Option<EventId>, Seen, Option<EventId>);
+// The event that a row names; none for another text.
+fn event(letter: &str) -> Option<EventId> {
+    match letter {
+        "a" => Some(EventId(A)),
+        "b" => Some(EventId(B)),
+        "c" => Some(EventId(C)),
+        _ => None,
+    }
+}
 
-fn told(alloc: Global, pairs: &[Pair], start: Marks, event: u16) -> Result<Told, Fail>
+// Why an event is blocked, as a row names it: by a word and an event.
+fn cause_of(word: &str, letter: &str) -> Option<Cause> {
+    match word {
+        "excluded" => Some(Cause::Excluded),
+        "condition" => Some(Cause::Condition(event(letter)?)),
+        "milestone" => Some(Cause::Milestone(event(letter)?)),
+        _ => None,
+    }
+}
+
+// Why the event is blocked and which is waited for, and then the marks and which is waited for after it.
+#[derive(Clone, Copy)]
+struct Answers {
+    cause: Option<Cause>,
+    waits: Option<EventId>,
+    seen: Seen,
+    waits_after: Option<EventId>,
+}
+
+fn told(alloc: Global, pairs: &[Pair], start: Marks, event: u16) -> Result<Answers, Fail>
     requires { event < 3 }
 {
     let graph = graph_of(alloc, pairs)?;
@@ -82,7 +110,12 @@ fn told(alloc: Global, pairs: &[Pair], start: Marks, event: u16) -> Result<Told,
     let cause = plain.why(EventId(event));
     let waits = plain.waits();
     plain.execute(EventId(event));
-    Ok((cause, waits, marks_of(plain.marking()), plain.waits()))
+    Ok(Answers {
+        cause,
+        waits,
+        seen: marks_of(plain.marking()),
+        waits_after: plain.waits(),
+    })
 }
 
 // One event of a graph at a marking: why it is blocked, and what its execution leaves.
@@ -92,222 +125,222 @@ struct Row {
     pairs: &'static [Pair],
     start: Marks,
     event: u16,
-    cause: Option<Cause>,
-    waits: Option<EventId>,
+    cause: (&'static str, &'static str),
+    waits: &'static str,
     after: Marks,
-    waits_after: Option<EventId>,
+    waits_after: &'static str,
 }
 
-const ROWS: [Row; 23] = [
+static ROWS: [Row; 23] = [
     Row {
         says: "nothing is related",
         pairs: &[],
         start: ["", "", "abc"],
         event: A,
-        cause: None,
-        waits: None,
+        cause: ("enabled", "-"),
+        waits: "-",
         after: ["a", "", "abc"],
-        waits_after: None,
+        waits_after: "-",
     },
     Row {
         says: "an excluded event is told before its conditions, and is not waited for",
         pairs: &[(Kind::Condition, B, A)],
         start: ["", "a", "bc"],
         event: A,
-        cause: Some(Cause::Excluded),
-        waits: None,
+        cause: ("excluded", "-"),
+        waits: "-",
         after: ["a", "", "bc"],
-        waits_after: None,
+        waits_after: "-",
     },
     Row {
         says: "a condition blocks until it is executed",
         pairs: &[(Kind::Condition, A, B)],
         start: ["", "", "abc"],
         event: B,
-        cause: Some(Cause::Condition(EventId(A))),
-        waits: None,
+        cause: ("condition", "a"),
+        waits: "-",
         after: ["b", "", "abc"],
-        waits_after: None,
+        waits_after: "-",
     },
     Row {
         says: "a condition that was executed blocks nothing",
         pairs: &[(Kind::Condition, A, B)],
         start: ["a", "", "abc"],
         event: B,
-        cause: None,
-        waits: None,
+        cause: ("enabled", "-"),
+        waits: "-",
         after: ["ab", "", "abc"],
-        waits_after: None,
+        waits_after: "-",
     },
     Row {
         says: "an excluded condition blocks nothing",
         pairs: &[(Kind::Condition, A, B)],
         start: ["", "", "bc"],
         event: B,
-        cause: None,
-        waits: None,
+        cause: ("enabled", "-"),
+        waits: "-",
         after: ["b", "", "bc"],
-        waits_after: None,
+        waits_after: "-",
     },
     Row {
         says: "the least of two conditions is told",
         pairs: &[(Kind::Condition, C, B), (Kind::Condition, A, B)],
         start: ["", "", "abc"],
         event: B,
-        cause: Some(Cause::Condition(EventId(A))),
-        waits: None,
+        cause: ("condition", "a"),
+        waits: "-",
         after: ["b", "", "abc"],
-        waits_after: None,
+        waits_after: "-",
     },
     Row {
         says: "the least condition that is open is told",
         pairs: &[(Kind::Condition, C, B), (Kind::Condition, A, B)],
         start: ["a", "", "abc"],
         event: B,
-        cause: Some(Cause::Condition(EventId(C))),
-        waits: None,
+        cause: ("condition", "c"),
+        waits: "-",
         after: ["ab", "", "abc"],
-        waits_after: None,
+        waits_after: "-",
     },
     Row {
         says: "a condition of itself blocks itself",
         pairs: &[(Kind::Condition, B, B)],
         start: ["", "", "abc"],
         event: B,
-        cause: Some(Cause::Condition(EventId(B))),
-        waits: None,
+        cause: ("condition", "b"),
+        waits: "-",
         after: ["b", "", "abc"],
-        waits_after: None,
+        waits_after: "-",
     },
     Row {
         says: "a pending milestone blocks, executed or not",
         pairs: &[(Kind::Milestone, C, B)],
         start: ["c", "c", "abc"],
         event: B,
-        cause: Some(Cause::Milestone(EventId(C))),
-        waits: Some(EventId(C)),
+        cause: ("milestone", "c"),
+        waits: "c",
         after: ["bc", "c", "abc"],
-        waits_after: Some(EventId(C)),
+        waits_after: "c",
     },
     Row {
         says: "a milestone that is not pending blocks nothing",
         pairs: &[(Kind::Milestone, C, B)],
         start: ["", "a", "abc"],
         event: B,
-        cause: None,
-        waits: Some(EventId(A)),
+        cause: ("enabled", "-"),
+        waits: "a",
         after: ["b", "a", "abc"],
-        waits_after: Some(EventId(A)),
+        waits_after: "a",
     },
     Row {
         says: "an excluded milestone blocks nothing",
         pairs: &[(Kind::Milestone, C, B)],
         start: ["", "c", "ab"],
         event: B,
-        cause: None,
-        waits: None,
+        cause: ("enabled", "-"),
+        waits: "-",
         after: ["b", "c", "ab"],
-        waits_after: None,
+        waits_after: "-",
     },
     Row {
         says: "the least pending milestone is told",
         pairs: &[(Kind::Milestone, C, B), (Kind::Milestone, A, B)],
         start: ["", "ac", "abc"],
         event: B,
-        cause: Some(Cause::Milestone(EventId(A))),
-        waits: Some(EventId(A)),
+        cause: ("milestone", "a"),
+        waits: "a",
         after: ["b", "ac", "abc"],
-        waits_after: Some(EventId(A)),
+        waits_after: "a",
     },
     Row {
         says: "a condition is told before a milestone",
         pairs: &[(Kind::Milestone, A, B), (Kind::Condition, C, B)],
         start: ["", "a", "abc"],
         event: B,
-        cause: Some(Cause::Condition(EventId(C))),
-        waits: Some(EventId(A)),
+        cause: ("condition", "c"),
+        waits: "a",
         after: ["b", "a", "abc"],
-        waits_after: Some(EventId(A)),
+        waits_after: "a",
     },
     Row {
         says: "a response is pending",
         pairs: &[(Kind::Response, A, C)],
         start: ["", "", "abc"],
         event: A,
-        cause: None,
-        waits: None,
+        cause: ("enabled", "-"),
+        waits: "-",
         after: ["a", "c", "abc"],
-        waits_after: Some(EventId(C)),
+        waits_after: "c",
     },
     Row {
         says: "the event is pending no longer",
         pairs: &[],
         start: ["", "ab", "abc"],
         event: A,
-        cause: None,
-        waits: Some(EventId(A)),
+        cause: ("enabled", "-"),
+        waits: "a",
         after: ["a", "b", "abc"],
-        waits_after: Some(EventId(B)),
+        waits_after: "b",
     },
     Row {
         says: "a response of itself stays pending",
         pairs: &[(Kind::Response, A, A)],
         start: ["", "a", "abc"],
         event: A,
-        cause: None,
-        waits: Some(EventId(A)),
+        cause: ("enabled", "-"),
+        waits: "a",
         after: ["a", "a", "abc"],
-        waits_after: Some(EventId(A)),
+        waits_after: "a",
     },
     Row {
         says: "what is cancelled is pending no longer",
         pairs: &[(Kind::Cancel, A, B)],
         start: ["", "bc", "abc"],
         event: A,
-        cause: None,
-        waits: Some(EventId(B)),
+        cause: ("enabled", "-"),
+        waits: "b",
         after: ["a", "c", "abc"],
-        waits_after: Some(EventId(C)),
+        waits_after: "c",
     },
     Row {
         says: "what is cancelled and a response is pending",
         pairs: &[(Kind::Cancel, A, B), (Kind::Response, A, B)],
         start: ["", "b", "abc"],
         event: A,
-        cause: None,
-        waits: Some(EventId(B)),
+        cause: ("enabled", "-"),
+        waits: "b",
         after: ["a", "b", "abc"],
-        waits_after: Some(EventId(B)),
+        waits_after: "b",
     },
     Row {
         says: "what is included is waited for where it is pending",
         pairs: &[(Kind::Include, A, B)],
         start: ["", "b", "ac"],
         event: A,
-        cause: None,
-        waits: None,
+        cause: ("enabled", "-"),
+        waits: "-",
         after: ["a", "b", "abc"],
-        waits_after: Some(EventId(B)),
+        waits_after: "b",
     },
     Row {
         says: "what is excluded is waited for no more",
         pairs: &[(Kind::Exclude, A, B)],
         start: ["", "b", "abc"],
         event: A,
-        cause: None,
-        waits: Some(EventId(B)),
+        cause: ("enabled", "-"),
+        waits: "b",
         after: ["a", "b", "ac"],
-        waits_after: None,
+        waits_after: "-",
     },
     Row {
         says: "an event may exclude itself",
         pairs: &[(Kind::Exclude, A, A)],
         start: ["", "", "abc"],
         event: A,
-        cause: None,
-        waits: None,
+        cause: ("enabled", "-"),
+        waits: "-",
         after: ["a", "", "bc"],
-        waits_after: None,
+        waits_after: "-",
     },
     Row {
         says: "relations that lead to the event do nothing",
@@ -319,39 +352,43 @@ const ROWS: [Row; 23] = [
         ],
         start: ["", "b", "ab"],
         event: A,
-        cause: None,
-        waits: Some(EventId(B)),
+        cause: ("enabled", "-"),
+        waits: "b",
         after: ["a", "b", "ab"],
-        waits_after: Some(EventId(B)),
+        waits_after: "b",
     },
     Row {
         says: "an event may be executed again",
         pairs: &[(Kind::Response, A, B)],
         start: ["a", "", "abc"],
         event: A,
-        cause: None,
-        waits: None,
+        cause: ("enabled", "-"),
+        waits: "-",
         after: ["a", "b", "abc"],
-        waits_after: Some(EventId(B)),
+        waits_after: "b",
     },
 ];
+
+fn assert_row(rt: &impl Abort, alloc: Global, row: &Row) -> Result<(), Fail> {
+    assert!(rt; row.event < 3);
+    let told = told(alloc, row.pairs, row.start, row.event)?;
+    let cause = cause_of(row.cause.0, row.cause.1);
+    assert_eq!(rt; told.cause, cause, "{}", row.says);
+    assert_eq!(rt; told.waits, event(row.waits), "{}", row.says);
+    let after = [
+        named(row.after[0]),
+        named(row.after[1]),
+        named(row.after[2]),
+    ];
+    assert_eq!(rt; told.seen, after, "{}", row.says);
+    assert_eq!(rt; told.waits_after, event(row.waits_after), "{}", row.says);
+    Ok(())
+}
 
 #[test]
 fn an_event_is_asked_and_executed(rt: HostRuntime) -> Result<(), Fail> {
     for row in &ROWS {
-        assert!(rt; row.event < 3);
-        let told = told(rt.alloc(), row.pairs, row.start, row.event)?;
-        let after = [
-            named(row.after[0]),
-            named(row.after[1]),
-            named(row.after[2]),
-        ];
-        assert_eq!(rt;
-            told,
-            (row.cause, row.waits, after, row.waits_after),
-            "{}",
-            row.says
-        );
+        assert_row(&rt, rt.alloc(), row)?;
     }
     Ok(())
 }

@@ -24,7 +24,7 @@ const MEDICATION: [Pair; 4] = [
     (Kind::Response, 0, 2),
 ];
 
-// Nothing executed, these pending, all included.
+// Nothing executed, these pending, the first three of the four atoms included.
 fn opening(pending: &[u16]) -> Marking
     ensures { HasRoom 4 result }
 {
@@ -82,7 +82,7 @@ fn projections_keep_what_their_sites_need(rt: HostRuntime) -> Result<(), Fail> {
 // What a site answers, for which event it waits, and which events are executed, pending and included there.
 type Told = (Decision, Option<EventId>, [u8; 3]);
 
-// A site that owns some of three atoms with these pairs, once it has heard of these executions.
+// A site that owns some of the atoms, which have these pairs, once it has heard of these executions.
 fn told(
     alloc: Global,
     pairs: &[Pair],
@@ -296,7 +296,7 @@ fn the_least_condition_is_told_before_a_milestone(rt: HostRuntime) -> Result<(),
     Ok(())
 }
 
-// The events that may be executed at a site that owns some of three atoms with these pairs, once it has
+// The events that may be executed at a site that owns some of the atoms, which have these pairs, once it has
 // heard of these executions.
 fn enabled(alloc: Global, pairs: &[Pair], own: &[u16], executed: &[u16]) -> Result<u8, Fail> {
     let graph = graph_of(alloc, pairs)?;

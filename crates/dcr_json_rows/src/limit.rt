@@ -1,3 +1,4 @@
+// Worked rows: files at the edge of each limit, and the first limit that is told.
 use dcr_limit::try_limits;
 use dcr_shape::{LimitKind, ReadStop, read_shape};
 use serde_json::Value;

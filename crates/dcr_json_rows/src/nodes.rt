@@ -1,3 +1,4 @@
+// Worked rows: nodes that are read, and what is told of others.
 use crate::shown::{assert_text, marking_text, nodes_text, relations_text};
 use dcr_limit::try_limits;
 use dcr_nodes::{Nodes, read_nodes};

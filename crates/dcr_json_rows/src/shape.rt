@@ -1,3 +1,4 @@
+// Worked rows: files whose parts have the shape that is wanted, and files whose parts have not.
 use dcr_graph::Kind;
 use dcr_shape::{
     Part, ReadStop, Texts, Version, WrittenEvent, WrittenEvents, WrittenRelations, WrittenSessions,

@@ -1,3 +1,4 @@
+// Worked rows: reading and writing whole texts in pieces, with faults in the middle of them.
 use dcr_base::{
     Failed, ReadStop, Sink, Source, StdSink, StdSource, WriteFault, read_all, write_all,
 };
