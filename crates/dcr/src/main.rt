@@ -1,12 +1,14 @@
 //! The program `dcr`: standard input to standard output, and the status of the run.
 #![tactic(auto)]
 
-ghost use Rattle.std.specs.Prelude.{◌≡◌};
+ghost use Rattle.std.specs.Prelude.{◌≡◌, IfOk, drop};
+ghost use Rattle.std.specs.Vec.Iter.{into_iter_items};
 ghost use Rattle.std.specs.Process.{exit_status};
 ghost use Rattle.dcr_base.specs.Status.{code_of};
 
 use dcr_app::{Status, dcr};
 use dcr_base::{StdSink, StdSource};
+use std::alloc::Global;
 use std::process::ExitCode;
 use std::{env, io};
 
@@ -30,11 +32,20 @@ fn exit_of(status: Status) -> ExitCode
     ExitCode::from(status.code())
 }
 
-// The words after the program's name. Each is pushed by itself, so that every growth that is refused is told.
+// The words after the program's name.
 fn words_of(rt: &HostRuntime) -> io::Result<Vec<String>> {
-    let mut words = Vec::new(rt.alloc());
-    for word in env::args(rt)?.skip(1) {
-        words.push(word)?;
+    behind_first(rt.alloc(), env::args(rt)?)
+}
+
+// All words but the first, in order. Each is pushed by itself, so that every growth that is refused is told.
+fn behind_first(alloc: Global, words: env::Args) -> io::Result<Vec<String>>
+    ensures { IfOk result (λ behind. behind.items ≡ drop 1 (into_iter_items words)) }
+{
+    let mut words = words;
+    let mut behind = Vec::new(alloc);
+    words.next();
+    while let Some(word) = words.next() {
+        behind.push(word)?;
     }
-    Ok(words)
+    Ok(behind)
 }
