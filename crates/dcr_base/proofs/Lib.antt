@@ -1,1 +1,2 @@
+pub mod Interruptions
 pub mod KnownBytes

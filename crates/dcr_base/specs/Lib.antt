@@ -1,3 +1,4 @@
+pub mod Asked
 pub mod Count
 pub mod ReadStop
 pub mod Status

@@ -3,6 +3,7 @@
 #![tactic(auto)]
 
 mod failed;
+mod once;
 mod reading;
 mod sink;
 mod source;
@@ -12,6 +13,7 @@ mod std_source;
 mod writing;
 
 pub use failed::Failed;
+pub use once::{ReadOnce, WriteOnce};
 pub use reading::{ReadStop, read_all};
 pub use sink::Sink;
 pub use source::Source;

@@ -62,6 +62,7 @@ const CHUNK: usize = 4096;
 pub fn read_all<S: Source>(alloc: Global, source: &mut S, limit: usize) -> Result<Vec<u8>, ReadStop>
     ensures within { IfOk result (λ bytes. vec_len bytes ≤ limit) }
     ensures all { IfOk result (λ bytes. IfSome (S.left source.old) (λ left. bytes.items ≡ left)) }
+    ensures has_ended { OnOk result (S.has_ended source.new) }
     ensures ended { OnOk result (IsAtEnd (S.left source.new)) }
 
     ensures too_long { result ≡ Err ReadStop.TooLong

@@ -1,4 +1,4 @@
-ghost use Rattle.std.specs.Prelude.{◌≡◌, ◌≤◌, ◌++◌, ◌↔◌, [], Some, length, take, drop, IsErr, IfOk, OnOk, OnErr};
+ghost use Rattle.std.specs.Prelude.{◌≡◌, ◌<◌, ◌≤◌, ◌++◌, ◌↔◌, [], Ok, Some, length, take, drop, IsErr, IfOk, OnOk, OnErr};
 ghost use Rattle.std.specs.Io.{ReadsAtMost};
 ghost use Rattle.std.specs.Io.KnownBytes.{ReadConsumes};
 ghost use Rattle.dcr_base.specs.Count.{Rose};
@@ -52,9 +52,11 @@ impl MemSource {
 }
 
 impl Source for MemSource {
-    ghost use Rattle.std.specs.Prelude.{Some};
+    ghost use Rattle.std.specs.Prelude.{◌≡◌, [], Some};
 
     ghost left = { λ source. Some source.left };
+
+    ghost has_ended = { λ source. source.left ≡ [] };
 
     ghost read_faults = { λ source. source.calls.faults };
 
@@ -65,6 +67,9 @@ impl Source for MemSource {
         ensures within { ReadsAtMost result buf.new }
         ensures moved { ReadConsumes (Some self.old.left) (Some self.new.left) result buf.new }
         ensures no_more { Some self.old.left ≡ Some [] → IfOk result (λ n. n ≡ 0) }
+        ensures ends { result ≡ Ok 0 → 0 < length buf.new → self.new.left ≡ [] }
+        ensures stays_ended { self.old.left ≡ [] → self.new.left ≡ [] }
+        ensures gives_none { self.old.left ≡ [] → IfOk result (λ n. n ≡ 0) }
         ensures never_falls { self.old.calls.faults ≤ self.new.calls.faults }
         ensures ok_counts_none { OnOk result (self.new.calls.faults ≡ self.old.calls.faults) }
         ensures counted { OnErr result (Rose self.old.calls.faults self.new.calls.faults) }
@@ -88,4 +93,6 @@ impl Source for MemSource {
         self.given += n;
         Ok(n)
     }
+
+    ghost ended_has_none = { λ source ended. ended };
 }

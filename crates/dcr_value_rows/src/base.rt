@@ -18,9 +18,11 @@ struct Pieces<'a> {
 }
 
 impl Source for Pieces<'_> {
-    ghost use Rattle.std.specs.Prelude.{None};
+    ghost use Rattle.std.specs.Prelude.{◌≡◌, [], None};
 
     ghost left = { λ _. None };
+
+    ghost has_ended = { λ pieces. pieces.rest.now ≡ [] };
 
     ghost read_faults = { λ pieces. pieces.faults };
 
@@ -36,6 +38,8 @@ impl Source for Pieces<'_> {
         self.rest = rest;
         Ok(n)
     }
+
+    ghost ended_has_none = { λ _ _. tt };
 }
 
 // Takes at most `step` bytes a call up to `room` in all, and fails where there is no more room.
