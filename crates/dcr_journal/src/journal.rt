@@ -24,11 +24,11 @@ impl Model for Journal {
 
     ghost Value = { History };
 
-    ghost use Rattle.dcr_journal.specs.JournalModel.{history_of, HasRoom};
+    ghost use Rattle.dcr_journal.specs.JournalModel.{history_of, FitsCapacity};
 
     ghost view = { history_of };
 
-    ghost invariant = { HasRoom };
+    ghost invariant = { FitsCapacity };
 }
 
 impl Journal {
