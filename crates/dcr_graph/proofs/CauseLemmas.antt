@@ -1,16 +1,21 @@
 -- The cause is what blocks, and what is waited for is the least that waits.
 use Rattle.std.proofs.Common.{◌≡◌, ℕ, ◌<◌, Bool, true, false, not, ◌&&◌, cond, Option, Some, None, refl, sym, ap, subst, ◌∙◌, arith}
 use Rattle.std.proofs.lemmas.Bool.{false≢true, false_from_ne_true, and_parts}
+use Rattle.std.specs.Option.{option_or, option_map}
 use Rattle.dcr_set.specs.Least.{least, NonePasses}
 use Rattle.dcr_set.specs.EventSet.{has}
 use Rattle.dcr_set.proofs.LeastLemmas.{least-some, least-none, least-from, least-none_from}
 use Rattle.dcr_graph.specs.Rules.{Rules}
-use Rattle.dcr_graph.specs.Cause.{cause, first_block, is_open_condition, is_pending_milestone}
+use Rattle.dcr_graph.specs.Cause.{cause, is_open_condition, is_pending_milestone}
 use Rattle.dcr_graph.specs.Laws.{No, IsLeastOf, IsOpenCondition, IsPendingMilestone, IsWaiting, Blocks, CauseIsWhatBlocks, WaitsForTheLeast}
 use Rattle.dcr_graph.specs.declared.kind.Kind.TheVariants as kind
 use Rattle.dcr_graph.specs.declared.kind.Cause.{Cause}
 use Rattle.dcr_graph.specs.declared.kind.Cause.TheVariants.{Excluded, Condition, Milestone}
 use Rattle.dcr_graph.specs.declared.marking.Marking.{Marking}
+
+-- the condition found blocks, else the milestone found
+abbrev pub first_block : Option ℕ → Option ℕ → Option Cause
+first_block condition milestone = option_or (option_map Condition condition) (option_map Milestone milestone)
 
 -- a test below a bound is a property of numbers
 record Tests (n : ℕ) (p : ℕ → Bool) (P : ℕ → Type 0) : Type 0 where

@@ -7,7 +7,7 @@ use Rattle.dcr_set.specs.EventSet.{Set, has}
 use Rattle.dcr_set.proofs.LeastLemmas.{least-ext, some_below-at}
 use Rattle.dcr_set.proofs.SetLemmas.{has-those, those-ext}
 use Rattle.dcr_graph.specs.Rules.{Rules}
-use Rattle.dcr_graph.specs.Cause.{cause, first_block, is_open_condition, is_pending_milestone}
+use Rattle.dcr_graph.specs.Cause.{cause, is_open_condition, is_pending_milestone}
 use Rattle.dcr_graph.specs.Step.{step, executed_after, pending_after, included_after}
 use Rattle.dcr_graph.specs.Projection.{leads_to, is_condition_source, is_milestone_source, tracks_included, tracks_executed, tracks_pending, in_alphabet, local_rules, project, as_marking, local_step}
 use Rattle.dcr_graph.specs.declared.kind.Kind.{Kind}
@@ -15,6 +15,7 @@ use Rattle.dcr_graph.specs.declared.kind.Kind.TheVariants.{Condition, Response, 
 use Rattle.dcr_graph.specs.declared.kind.Cause.TheVariants.{Excluded}
 use Rattle.dcr_graph.specs.declared.marking.Marking.{Marking}
 use Rattle.dcr_graph.specs.declared.marking.SiteMark.{SiteMark}
+use Rattle.dcr_graph.proofs.CauseLemmas.{first_block}
 use Rattle.dcr_graph.proofs.BoolLemmas.{and_true, cut_or, cut_pending, cut_included, left_out, kept_or, kept_pending, kept_included}
 
 and_both : (a b : Bool) → a ≡ true → b ≡ true → (a && b) ≡ true
