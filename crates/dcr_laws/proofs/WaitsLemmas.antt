@@ -1,9 +1,9 @@
 -- What the sites of a cover wait for is what the graph waits for.
 use Rattle.std.proofs.Common.{◌≡◌, ℕ, zero, suc, ◌<◌, Bool, true, false, ◌&&◌, ◌||◌, List, [], ◌∷◌, map, Option, Some, None, refl, sym, ap, ◌∙◌, arith}
 use Rattle.std.specs.List.{zip, fold}
-use Rattle.dcr_set.specs.Least.{least, or_this}
+use Rattle.dcr_set.specs.Least.{least}
 use Rattle.dcr_set.specs.EventSet.{Set, has}
-use Rattle.dcr_set.proofs.LeastLemmas.{least-ext, least-none_from, least-some}
+use Rattle.dcr_set.proofs.LeastLemmas.{or_this, least-zero, least-suc, least-ext, least-none_from, least-some}
 use Rattle.dcr_set.proofs.SetLemmas.{has-those}
 use Rattle.dcr_graph.specs.Rules.{Rules}
 use Rattle.dcr_graph.specs.Projection.{project, tracks_included, tracks_pending, is_condition_source, is_milestone_source}
@@ -29,11 +29,12 @@ lesser_or_this None None n false false ha hb = refl
 
 -- the lesser of the least that pass two tests is the least that passes one of them
 pub lesser-least : (n : ℕ) (p q : ℕ → Bool) → lesser (least n p) (least n q) ≡ least n (λ a. p a || q a)
-unfolding least
-lesser-least zero p q = refl
+lesser-least zero p q = ap (λ o. lesser o (least 0 q)) (least-zero p) ∙ least-zero q ∙ sym (least-zero (λ a. p a || q a))
 lesser-least (suc n) p q =
-    lesser_or_this (least n p) (least n q) n (p n) (q n) (λ k found. (least-some n p k found).below) (λ k found. (least-some n q k found).below)
+    ap (λ o. lesser o (least (suc n) q)) (least-suc n p) ∙ ap (lesser (or_this (least n p) n (p n))) (least-suc n q)
+    ∙ lesser_or_this (least n p) (least n q) n (p n) (q n) (λ k found. (least-some n p k found).below) (λ k found. (least-some n q k found).below)
     ∙ ap (λ o. or_this o n (p n || q n)) (lesser-least n p q)
+    ∙ sym (least-suc n (λ a. p a || q a))
 
 -- an owned event is tracked
 owned_and_tracked : (owned included pending x y : Bool) → (owned && ((included && (owned || x)) && (pending && (owned || y)))) ≡ (owned && (included && pending))

@@ -6,7 +6,7 @@ use Rattle.dcr_graph.specs.Rules.{Rules}
 use Rattle.dcr_graph.specs.Rows.{row}
 use Rattle.dcr_graph.specs.Cause.{cause, waits}
 use Rattle.dcr_graph.specs.Step.{step}
-use Rattle.dcr_graph.specs.Projection.{in_alphabet, project, local_step}
+use Rattle.dcr_graph.specs.Projection.{in_alphabet, project, local_step, HasRoom}
 use Rattle.dcr_graph.specs.declared.marking.Marking.{Marking}
 use Rattle.dcr_journal.specs.Run.{IsInRange, after, calls_of, touches, told, marks_at}
 use Rattle.dcr_journal.specs.declared.call.Call.{Call}
@@ -70,6 +70,11 @@ abbrev pub ARunIsDone : Type 0
 ARunIsDone = (G : Rules) (C : List Set) (M : Marking) (events : List ℕ) (executions : List (ℕ × ℕ)) → IsRun G M events → Spell C events executions
     → All (λ (entry : Entry). entry.outcome ≡ Done) (told G C M (calls_for executions ∷ []))
 
--- where the owned sets cover the atoms, each list of atoms is spelled by some executions
-abbrev pub EachListIsSpelled : Type 0
-EachListIsSpelled = (G : Rules) (C : List Set) (events : List ℕ) → IsCovered G.atoms C → All (λ e. e < G.atoms) events → (executions : List (ℕ × ℕ)) × Spell C events executions
+-- the events of a run from a marking with the graph's room are atoms
+abbrev pub ARunIsOfAtoms : Type 0
+ARunIsOfAtoms = (G : Rules) (M : Marking) (events : List ℕ) → HasRoom G.atoms M → IsRun G M events → All (λ e. e < G.atoms) events
+
+-- where the owned sets cover the atoms, each run from a marking with the graph's room is spelled by some executions, each a site and an atom that there are
+abbrev pub EachRunIsSpelled : Type 0
+EachRunIsSpelled = (G : Rules) (C : List Set) (M : Marking) (events : List ℕ) → IsCovered G.atoms C → HasRoom G.atoms M → IsRun G M events
+    → (executions : List (ℕ × ℕ)) × Spell C events executions × All (IsInRange (length C) G.atoms) (calls_for executions)

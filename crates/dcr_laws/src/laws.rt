@@ -1,4 +1,4 @@
-ghost use Rattle.dcr_laws.specs.Laws.{LocalCauseIsTheCause, LocalStepIsTheStep, OutsideNothingChanges, SitesWaitAsTheGraph, UntouchedMarksStay, SitesRunAsTheGraph, ToldHasEachCall, ToldHasNoOtherSession, ARunIsDone, EachListIsSpelled};
+ghost use Rattle.dcr_laws.specs.Laws.{LocalCauseIsTheCause, LocalStepIsTheStep, OutsideNothingChanges, SitesWaitAsTheGraph, UntouchedMarksStay, SitesRunAsTheGraph, ToldHasEachCall, ToldHasNoOtherSession, ARunIsDone, ARunIsOfAtoms, EachRunIsSpelled};
 
 /// The local cause. For an event that a site owns, the cause that is read from the site's projection of a marking
 /// and its local rules is the cause of the graph at that marking: the site decides alone.
@@ -41,8 +41,10 @@ pub fn told_has_each_call()
 {}
 
 /// Events that can be executed one after the other are answered done at every call, where a single session asks for
-/// each at a site that owns it; and where the owned sets cover the atoms, some list of calls asks so.
+/// each at a site that owns it. Where the marking has the graph's room these events are atoms, and where besides the
+/// owned sets cover the atoms some session asks so: every run of the graph is one of calls.
 pub fn a_run_is_done()
     ensures answered { ARunIsDone }
-    ensures spelled { EachListIsSpelled }
+    ensures atoms { ARunIsOfAtoms }
+    ensures spelled { EachRunIsSpelled }
 {}
