@@ -1,23 +1,19 @@
--- The told run of sessions is legal, and its sizes.
-use Rattle.std.proofs.Common.{◌≡◌, ℕ, ◌+◌, ◌<◌, ◌≤◌, List, [], ◌∷◌, ◌++◌, length, map, take, Some, inl, inr, sym, ap, subst, ◌∙◌, arith}
+-- The told run of sessions is legal.
+use Rattle.std.proofs.Common.{◌≡◌, ℕ, ◌+◌, ◌<◌, List, [], ◌∷◌, ◌++◌, length, map, take, Some, inl, inr, sym, ap, subst, ◌∙◌, arith}
 use Rattle.std.specs.Prelude.{fold, slice_get}
 use Rattle.std.specs.List.{All}
 use Rattle.std.proofs.lemmas.Option.{slice_get_within}
-use Rattle.std.proofs.lemmas.List.{length-map, take_at, take-append-le}
-use Rattle.std.proofs.lemmas.List.Elements.{All-nil, All-cons, All-append, All-head, All-tail, All-map}
+use Rattle.std.proofs.lemmas.List.{take_at, take-append-le}
+use Rattle.std.proofs.lemmas.List.Elements.{All-nil, All-append, All-head, All-tail, All-map}
 use Rattle.dcr_set.specs.EventSet.{Set}
-use Rattle.dcr_set.proofs.LeastLemmas.{least-some}
-use Rattle.dcr_set.proofs.SetLemmas.{length-those}
 use Rattle.dcr_graph.specs.Rules.{Rules}
-use Rattle.dcr_graph.specs.Projection.{project, as_marking, HasRoom}
 use Rattle.dcr_graph.specs.declared.marking.Marking.{Marking}
-use Rattle.dcr_graph.specs.declared.marking.SiteMark.{SiteMark}
 use Rattle.dcr_journal.specs.Answer.{answer}
-use Rattle.dcr_journal.specs.Run.{IsInRange, IsLegal, after, made_by, numbered, told_next, told, marks_at}
+use Rattle.dcr_journal.specs.Run.{IsInRange, IsLegal, after, made_by, numbered, told_next, told}
 use Rattle.dcr_journal.specs.declared.call.Call.{Call}
 use Rattle.dcr_journal.specs.declared.call.Entry.{Entry}
 use Rattle.dcr_journal.specs.declared.closed.Closed.{Closed}
-use Rattle.dcr_run.specs.RunOf.{IsRunOf, FitsRun}
+use Rattle.dcr_run.specs.RunOf.{IsRunOf}
 use Rattle.dcr_run.proofs.SitesLemmas.{push_cases}
 
 -- ---- each entry of a told run is legal
@@ -85,22 +81,3 @@ told_is_legal G C M sessions in_range place entry is =
 pub run_is_legal : (G : Rules) (C : List Set) (M : Marking) (sessions : List (List Call)) (closed : Closed) → All (λ (calls : List Call). All (IsInRange (length C) G.atoms) calls) sessions
     → IsRunOf G C M sessions closed → IsLegal G C M closed.history.entries
 run_is_legal G C M sessions closed in_range run = subst (IsLegal G C M) (sym run.history) (told_is_legal G C M sessions in_range)
-
--- ---- sizes
-
-marks_fit : (G : Rules) (C : List Set) (M : Marking) → All (λ (mark : SiteMark). HasRoom G.atoms (as_marking mark)) (marks_at G C M)
-marks_fit G [] M = All-nil (λ (mark : SiteMark). HasRoom G.atoms (as_marking mark))
-marks_fit G (S ∷ C) M =
-    All-cons (λ (mark : SiteMark). HasRoom G.atoms (as_marking mark)) (project G S M) (marks_at G C M)
-    (record { executed = length-those G.atoms _; pending = length-those G.atoms _; included = length-those G.atoms _ }) (marks_fit G C M)
-
-pub run_fits : (G : Rules) (C : List Set) (M : Marking) (sessions : List (List Call)) (closed : Closed) → HasRoom G.atoms M → length closed.history.entries ≤ 200000
-    → IsRunOf G C M sessions closed → FitsRun G.atoms (length C) closed
-run_fits G C M sessions closed room most run =
-    let N = after G M closed.history.entries in record {
-      opening = subst (HasRoom G.atoms) (sym run.opening) room;
-      most_entries = most;
-      as_many_marks = ap (λ marks. length marks) run.marks ∙ length-map C (λ S. project G S N);
-      marks = subst (All (λ (mark : SiteMark). HasRoom G.atoms (as_marking mark))) (sym run.marks) (marks_fit G C N);
-      waits = λ e is. (least-some G.atoms _ e (sym run.waits ∙ is)).below;
-    }

@@ -3,7 +3,7 @@ use Rattle.dcr_graph.specs.GraphValue.{rules_of}
 use Rattle.dcr_journal.specs.Run.{after}
 use Rattle.dcr_journal.specs.declared.closed.Closed.{Closed}
 use Rattle.dcr_run.specs.RunOf.{IsRunOf}
-use Rattle.dcr_run.proofs.RunLemmas.{run_is_legal, run_fits}
+use Rattle.dcr_run.proofs.RunLemmas.{run_is_legal}
 use Rattle.dcr_run.proofs.run.run_case.Goals as goal
 
 pub returns : goal.returns
@@ -26,5 +26,5 @@ returns c =
     } in record {
       run = run;
       legal = run_is_legal G C M sessions closed c.requires.in_range run;
-      fits = run_fits G C M sessions closed c.requires.opening most run;
+      most_entries = most;
     }
