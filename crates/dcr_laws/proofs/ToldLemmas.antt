@@ -3,7 +3,7 @@ use Rattle.std.proofs.Common.{◌≡◌, ℕ, zero, suc, ◌+◌, ◌<◌, Bool,
 use Rattle.std.specs.List.{All, fold, filter}
 use Rattle.std.proofs.lemmas.Bool.{cases_lt, eq-eqb, ne_eqb, false≢true}
 use Rattle.std.proofs.lemmas.List.{append-nil, get_or_past, map-append}
-use Rattle.std.proofs.lemmas.List.Elements.{filter-append, All-nil, All-cons, All-head, All-tail, All-append, All-push}
+use Rattle.std.proofs.lemmas.List.Elements.{filter-append, All-nil, All-cons, All-head, All-tail, All-append, All-map, All-push}
 use Rattle.std.proofs.lemmas.List.Sums.{fold_push}
 use Rattle.dcr_set.specs.EventSet.{Set, has}
 use Rattle.dcr_set.proofs.SetLemmas.{has_past, length-those}
@@ -15,12 +15,13 @@ use Rattle.dcr_graph.specs.declared.marking.Marking.{Marking}
 use Rattle.dcr_graph.proofs.CauseLemmas.{cause_is_what_blocks}
 use Rattle.dcr_proj.specs.CoverValue.{is_owned, IsCovered}
 use Rattle.dcr_journal.specs.Answer.{answer, outcome_of}
-use Rattle.dcr_journal.specs.Run.{IsInRange, stepped_by, after, calls_of, numbered, told_next, told}
+use Rattle.dcr_journal.specs.Run.{IsInRange, IsSound, stepped_by, after, calls_of, numbered, told_next, told}
 use Rattle.dcr_journal.specs.declared.call.Call.{Call}
 use Rattle.dcr_journal.specs.declared.call.Call.TheVariants.{Exec}
 use Rattle.dcr_journal.specs.declared.call.Outcome.TheVariants.{Done, NotHere}
 use Rattle.dcr_journal.specs.declared.call.Entry.{Entry}
-use Rattle.dcr_laws.specs.Laws.{ToldHasEachCall, ToldHasNoOtherSession, IsRun, Spell, calls_for, ARunIsDone, ARunIsOfAtoms, EachRunIsSpelled}
+use Rattle.dcr_journal.proofs.SoundLemmas.{sound_none, sound_more}
+use Rattle.dcr_laws.specs.Laws.{ToldHasEachCall, ToldHasNoOtherSession, ToldIsSound, IsRun, Spell, calls_for, ARunIsDone, ARunIsOfAtoms, EachRunIsSpelled}
 
 -- what was asked by an entry
 abbrev asked_by : Entry → ℕ × Call
@@ -115,6 +116,30 @@ numbered_below n s (calls ∷ sessions) e =
 pub told_has_no_other_session : ToldHasNoOtherSession
 told_has_no_other_session G C M sessions =
     told_all (λ k. k < length sessions) G C M (numbered 0 sessions) [] (All-nil (λ (entry : Entry). entry.session < length sessions)) (numbered_below (length sessions) 0 sessions (omega arith))
+
+-- ---- the told run is sound
+
+-- the calls of the sessions are in range where the sessions are
+numbered_within : (sites atoms session : ℕ) (sessions : List (List Call)) → All (λ (calls : List Call). All (IsInRange sites atoms) calls) sessions
+    → All (λ (a : ℕ × Call). IsInRange sites atoms a.1) (numbered session sessions)
+numbered_within sites atoms session [] within = All-nil (λ (a : ℕ × Call). IsInRange sites atoms a.1)
+numbered_within sites atoms session (calls ∷ sessions) within =
+    let P : ℕ × Call → Type 0 = λ a. IsInRange sites atoms a.1 in
+    let Q : List Call → Type 0 = λ c. All (IsInRange sites atoms) c in
+    All-append P (map (λ call. (session, call)) calls) (numbered (session + 1) sessions)
+    (All-map P (λ call. (session, call)) calls (All-head Q calls sessions within)) (numbered_within sites atoms (session + 1) sessions (All-tail Q calls sessions within))
+
+-- each call more is answered
+sound_from : (G : Rules) (C : List Set) (M : Marking) (asked : List (ℕ × Call)) (J : List Entry) → All (λ (a : ℕ × Call). IsInRange (length C) G.atoms a.1) asked
+    → IsSound G C M J → IsSound G C M (fold (told_next G C M) J asked)
+sound_from G C M [] J in_range before = before
+sound_from G C M (a ∷ asked) J in_range before =
+    sound_from G C M asked (told_next G C M J a) (All-tail (λ (x : ℕ × Call). IsInRange (length C) G.atoms x.1) a asked in_range)
+    (sound_more G C M J before _ (All-head (λ (x : ℕ × Call). IsInRange (length C) G.atoms x.1) a asked in_range) refl refl)
+
+pub told_is_sound : ToldIsSound
+told_is_sound G C M sessions in_range =
+    sound_from G C M (numbered 0 sessions) [] (numbered_within (length C) G.atoms 0 sessions in_range) (sound_none G C M)
 
 -- ---- runs
 

@@ -105,7 +105,7 @@ pub(crate) fn pass_entries<O: Sink>(
 {
     for place in 0..history.len() {
         let entry = history.get(place).unwrap();
-        pass_entry(place, entry, graph, cover, held, sink)?;
+        pass_entry(place, &entry, graph, cover, held, sink)?;
     }
     Ok(())
 }

@@ -1,8 +1,8 @@
 -- What `least` finds, and when two tests have one least number.
-use Rattle.std.proofs.Common.{◌≡◌, ℕ, zero, suc, ◌+◌, ◌<◌, ◌≤◌, inl, inr, Bool, true, false, cond, ◌∷◌, Option, Some, None, is_some, refl, sym, ap, ◌∙◌, arith}
+use Rattle.std.proofs.Common.{◌≡◌, ℕ, zero, suc, ◌+◌, ◌<◌, ◌≤◌, inl, inr, Bool, true, false, ◌||◌, cond, ◌∷◌, Option, Some, None, is_some, refl, sym, ap, ◌∙◌, arith}
 use Rattle.std.specs.List.{range_with_len, filter, slice_get}
 use Rattle.std.proofs.lemmas.Bool.{cases_lt, false≢true}
-use Rattle.dcr_set.specs.Least.{least, some_below, IsLeast, NonePasses}
+use Rattle.dcr_set.specs.Least.{least, some_below, lesser, IsLeast, NonePasses}
 
 -- the first that passes of the n numbers from a on
 abbrev first_from : ℕ → ℕ → (ℕ → Bool) → Option ℕ
@@ -138,3 +138,27 @@ some_below-from n p h = by (least n p) refl
     by : (o : Option ℕ) → least n p ≡ o → (k : ℕ) × (k < n) × (p k ≡ true)
     by (Some k) e = let found = least-some n p k e in (k, found.below, found.passes)
     by None e = absurd (false≢true (ap is_some (sym e) ∙ h))
+
+-- ---- the lesser of two
+
+-- two numbers below n, each replaced by n where it is missing and a test says so
+lesser_or_this : (a b : Option ℕ) (n : ℕ) (p q : Bool) → ((k : ℕ) → a ≡ Some k → k < n) → ((k : ℕ) → b ≡ Some k → k < n)
+    → lesser (or_this a n p) (or_this b n q) ≡ or_this (lesser a b) n (p || q)
+lesser_or_this (Some i) (Some j) n p q ha hb = refl
+lesser_or_this (Some i) None n p true ha hb = let below = ha i refl in ap Some (omega arith)
+lesser_or_this (Some i) None n p false ha hb = refl
+lesser_or_this None (Some j) n true q ha hb = let below = hb j refl in ap Some (omega arith)
+lesser_or_this None (Some j) n false q ha hb = refl
+lesser_or_this None None n true true ha hb = ap Some (omega arith)
+lesser_or_this None None n true false ha hb = refl
+lesser_or_this None None n false true ha hb = refl
+lesser_or_this None None n false false ha hb = refl
+
+-- the lesser of the least that pass two tests is the least that passes one of them
+pub lesser-least : (n : ℕ) (p q : ℕ → Bool) → lesser (least n p) (least n q) ≡ least n (λ a. p a || q a)
+lesser-least zero p q = ap (λ o. lesser o (least 0 q)) (least-zero p) ∙ least-zero q ∙ sym (least-zero (λ a. p a || q a))
+lesser-least (suc n) p q =
+    ap (λ o. lesser o (least (suc n) q)) (least-suc n p) ∙ ap (lesser (or_this (least n p) n (p n))) (least-suc n q)
+    ∙ lesser_or_this (least n p) (least n q) n (p n) (q n) (λ k found. (least-some n p k found).below) (λ k found. (least-some n q k found).below)
+    ∙ ap (λ o. or_this o n (p n || q n)) (lesser-least n p q)
+    ∙ sym (least-suc n (λ a. p a || q a))

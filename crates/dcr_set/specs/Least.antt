@@ -1,5 +1,5 @@
 -- The least number below a bound that passes a test.
-use Rattle.std.specs.Prelude.{◌≡◌, ℕ, ◌<◌, Bool, true, false, filter, Option, is_some, slice_get}
+use Rattle.std.specs.Prelude.{◌≡◌, ℕ, ◌<◌, Bool, true, false, filter, min, Option, Some, None, is_some, slice_get}
 use Rattle.std.specs.List.{range_with_len}
 
 -- the least number below n that passes: the first of those that do, in ascending order
@@ -19,3 +19,9 @@ pub record IsLeast (n : ℕ) (p : ℕ → Bool) (k : ℕ) : Type 0 where
 -- no number below n passes
 abbrev pub NonePasses : ℕ → (ℕ → Bool) → Type 0
 NonePasses n p = (j : ℕ) → j < n → p j ≡ false
+
+-- the lesser of two numbers, where either may be missing
+abbrev pub lesser : Option ℕ → Option ℕ → Option ℕ
+lesser None b = b
+lesser (Some a) None = Some a
+lesser (Some a) (Some b) = Some (min a b)
