@@ -1,7 +1,6 @@
 -- A run in which nothing failed goes on by an entry that is answered, or ends with a fault.
-use Rattle.std.proofs.Common.{◌≡◌, ◌⊎◌, ℕ, ◌+◌, ◌<◌, Bool, true, false, List, [], ◌∷◌, ◌++◌, length, take, Option, Some, None, inl, inr, cond, refl, sym, ap, subst, ◌∙◌, arith}
+use Rattle.std.proofs.Common.{◌≡◌, ◌⊎◌, ℕ, ◌<◌, Bool, true, false, List, [], ◌∷◌, ◌++◌, length, take, Option, Some, None, inl, inr, cond, refl, sym, ap, subst, ◌∙◌, arith}
 use Rattle.std.specs.Prelude.{slice_get}
-use Rattle.std.specs.List.{All}
 use Rattle.std.proofs.lemmas.List.{length-append, take_at, take-append-le}
 use Rattle.std.proofs.lemmas.List.Elements.{All-nil, All-push}
 use Rattle.std.proofs.lemmas.Option.{slice_get_within, get_or_from_slice_get}
@@ -14,7 +13,7 @@ use Rattle.dcr_graph.specs.declared.kind.Cause.{Cause}
 use Rattle.dcr_graph.specs.declared.kind.Cause.TheVariants as why
 use Rattle.dcr_graph.specs.declared.marking.Marking.{Marking}
 use Rattle.dcr_journal.specs.Answer.{answer, outcome_of, verdict_of}
-use Rattle.dcr_journal.specs.Run.{IsInRange, IsLastFault, IsLegalAt, IsLegal, HasNoFault, IsSound, after, made_by}
+use Rattle.dcr_journal.specs.Run.{IsInRange, IsLastFault, IsLegalAt, IsLegal, IsSound, after, made_by}
 use Rattle.dcr_journal.specs.declared.call.Call.{Call}
 use Rattle.dcr_journal.specs.declared.call.Call.TheVariants.{Exec, Look, Enabled, Accepting}
 use Rattle.dcr_journal.specs.declared.call.Entry.{Entry}

@@ -14,7 +14,7 @@ use Rattle.dcr_graph.proofs.LocalLaws.{outside_step}
 use Rattle.dcr_proj.specs.Local.{projection_of}
 use Rattle.dcr_journal.specs.Run.{IsInRange, event_done, stepped_by, after, touches}
 use Rattle.dcr_journal.specs.declared.call.Call.{Call}
-use Rattle.dcr_journal.specs.declared.call.Call.TheVariants.{Exec, Look, Enabled, Accepting}
+use Rattle.dcr_journal.specs.declared.call.Call.TheVariants.{Exec}
 use Rattle.dcr_journal.specs.declared.call.Outcome.{Outcome}
 use Rattle.dcr_journal.specs.declared.call.Outcome.TheVariants.{Done}
 use Rattle.dcr_journal.specs.declared.call.Entry.{Entry}

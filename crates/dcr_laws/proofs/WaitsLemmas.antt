@@ -1,5 +1,5 @@
 -- What the sites of a cover wait for is what the graph waits for.
-use Rattle.std.proofs.Common.{◌≡◌, ℕ, zero, suc, ◌<◌, Bool, true, false, ◌&&◌, ◌||◌, List, [], ◌∷◌, map, Option, Some, None, refl, sym, ap, ◌∙◌, arith}
+use Rattle.std.proofs.Common.{◌≡◌, ℕ, Bool, true, false, ◌&&◌, ◌||◌, List, [], ◌∷◌, map, refl, sym, ap, ◌∙◌}
 use Rattle.std.specs.List.{zip, fold}
 use Rattle.dcr_set.specs.Least.{least, lesser}
 use Rattle.dcr_set.specs.EventSet.{Set, has}

@@ -1,13 +1,12 @@
 -- Lists of sites that take in an execution, and what they tell together.
-use Rattle.std.proofs.Common.{◌≡◌, ◌≢◌, ◌⊎◌, ℕ, ◌+◌, ◌<◌, ◌≤◌, Bool, true, false, ◌&&◌, ◌||◌, eqb, List, [], ◌∷◌, ◌++◌, length, get_or, set, map, take, Option, Some, None, inl, inr, refl, sym, ap, subst, ◌∙◌, arith, length-set, get_or-set_same, get_or-set_other}
+use Rattle.std.proofs.Common.{◌≡◌, ℕ, ◌+◌, ◌<◌, ◌≤◌, Bool, true, false, ◌||◌, eqb, List, [], ◌∷◌, length, get_or, set, map, take, Some, inl, inr, refl, sym, ap, subst, ◌∙◌, arith, length-set}
 use Rattle.std.proofs.lemmas.Option.{slice_get_within, get_or_from_slice_get, slice_get-get_or}
 use Rattle.std.proofs.lemmas.Grind.{get_or_default_zero}
-use Rattle.std.proofs.lemmas.List.{length-take-le, get_or-take, take_all, get_or_append_left, length-append, ext_get_or, get_or-map, length-map}
-use Rattle.std.proofs.Math.Seq.{get_or-append_seam}
+use Rattle.std.proofs.lemmas.List.{length-take-le, get_or-take, take_all, ext_get_or, get_or-map, length-map}
 use Rattle.std.proofs.lemmas.List.Folds.{list_any_more, list_any_none, list_any_at, Any-from_list_any}
 use Rattle.std.proofs.lemmas.List.Kept.{AllPairs-from_increasing}
 use Rattle.std.specs.List.Sorted.{IsStrictlyIncreasing}
-use Rattle.std.proofs.lemmas.Bool.{cases_lt, cases_eq, eq-eqb, ne_eqb, eqb-true, false≢true, false_from_ne_true}
+use Rattle.std.proofs.lemmas.Bool.{eq-eqb, ne_eqb, eqb-true, false≢true, false_from_ne_true}
 use Rattle.dcr_graph.proofs.BoolLemmas.{or_true, or_false}
 use Rattle.std.specs.Prelude.{slice_get}
 use Rattle.std.specs.List.{All, list_any, Contains}
@@ -16,7 +15,6 @@ use Rattle.dcr_set.proofs.ListLemmas.{set_cases}
 use Rattle.dcr_graph.specs.Rules.{Rules}
 use Rattle.dcr_graph.specs.Rows.{row}
 use Rattle.dcr_graph.specs.Step.{step}
-use Rattle.dcr_graph.specs.Cause.{waits}
 use Rattle.dcr_graph.specs.Projection.{project}
 use Rattle.dcr_graph.specs.declared.marking.Marking.{Marking}
 use Rattle.dcr_journal.specs.Run.{marks_at}
@@ -24,10 +22,8 @@ use Rattle.dcr_proj.specs.CoverValue.{atoms_of}
 use Rattle.dcr_proj.specs.NetworkValue.{IsNetwork, participants_of}
 use Rattle.dcr_proj.proofs.NetworkLemmas.{hears, participant_hears, hears_participant, participants_ascend, participants_below}
 use Rattle.dcr_site.proofs.SiteLemmas.{unheard}
-use Rattle.dcr_site.specs.Seen.{Seen, StandsAt}
-use Rattle.dcr_site.specs.Decision.{owned_waits}
+use Rattle.dcr_site.specs.Seen.{Seen}
 use Rattle.dcr_run.specs.SitesModel.{alphabets_in}
-use Rattle.dcr_proj.specs.CoverValue.{IsCovered}
 use Rattle.dcr_site.specs.Together.{AllStand, IsOver, AreOver}
 use Rattle.dcr_run.specs.Engine.{AreOverMore, Heard, HeardEach}
 
