@@ -6,8 +6,8 @@ use Rattle.std.proofs.lemmas.Bool.{false≢true}
 use Rattle.std.proofs.lemmas.List.{ext_get_or, get_or-map, length-map}
 use Rattle.std.proofs.lemmas.List.Folds.{Any-from_list_any, list_any_at}
 use Rattle.dcr_set.specs.EventSet.{Set, has}
-use Rattle.dcr_set.specs.Least.{least, some_below}
-use Rattle.dcr_set.proofs.LeastLemmas.{IsLeast, least-some, least-none, least-from, least-none_from}
+use Rattle.dcr_set.specs.Least.{least, some_below, IsLeast}
+use Rattle.dcr_set.proofs.LeastLemmas.{least-some, least-none, least-from, least-none_from}
 use Rattle.dcr_set.proofs.SetLemmas.{length-those, same_set}
 use Rattle.dcr_graph.specs.Names.{is_name}
 use Rattle.dcr_nest.specs.Nest.{Nest}

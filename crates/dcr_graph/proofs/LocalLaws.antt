@@ -1,13 +1,13 @@
 -- Local decisions are global ones: the cause read over a site's marks and rules is the graph's, and the step over
 -- them is the projection of the graph's step.
-use Rattle.std.proofs.Common.{◌≡◌, ℕ, ◌<◌, Bool, true, false, not, ◌&&◌, ◌||◌, eqb, cond, Option, Some, None, is_some, refl, sym, ap, ◌∙◌}
+use Rattle.std.proofs.Common.{◌≡◌, ℕ, ◌<◌, Bool, true, false, not, ◌&&◌, ◌||◌, eqb, cond, Some, refl, sym, ap, ◌∙◌}
 use Rattle.std.proofs.lemmas.Bool.{false≢true, or_left, or_right, eqb-true, false_from_ne_true}
-use Rattle.dcr_set.specs.Least.{least, some_below}
+use Rattle.dcr_set.specs.Least.{least}
 use Rattle.dcr_set.specs.EventSet.{Set, has}
-use Rattle.dcr_set.proofs.LeastLemmas.{least-ext, least-none}
+use Rattle.dcr_set.proofs.LeastLemmas.{least-ext, some_below-at}
 use Rattle.dcr_set.proofs.SetLemmas.{has-those, those-ext}
 use Rattle.dcr_graph.specs.Rules.{Rules}
-use Rattle.dcr_graph.specs.Cause.{cause, first_block, is_open_condition, is_pending_milestone}
+use Rattle.dcr_graph.specs.Cause.{cause, is_open_condition, is_pending_milestone}
 use Rattle.dcr_graph.specs.Step.{step, executed_after, pending_after, included_after}
 use Rattle.dcr_graph.specs.Projection.{leads_to, is_condition_source, is_milestone_source, tracks_included, tracks_executed, tracks_pending, in_alphabet, local_rules, project, as_marking, local_step}
 use Rattle.dcr_graph.specs.declared.kind.Kind.{Kind}
@@ -15,15 +15,8 @@ use Rattle.dcr_graph.specs.declared.kind.Kind.TheVariants.{Condition, Response, 
 use Rattle.dcr_graph.specs.declared.kind.Cause.TheVariants.{Excluded}
 use Rattle.dcr_graph.specs.declared.marking.Marking.{Marking}
 use Rattle.dcr_graph.specs.declared.marking.SiteMark.{SiteMark}
+use Rattle.dcr_graph.proofs.CauseLemmas.{first_block}
 use Rattle.dcr_graph.proofs.BoolLemmas.{and_true, cut_or, cut_pending, cut_included, left_out, kept_or, kept_pending, kept_included}
-
--- some number below passes
-pub some_below-at : (n : ℕ) (p : ℕ → Bool) (k : ℕ) → k < n → p k ≡ true → some_below n p ≡ true
-some_below-at n p k below passes = found (least n p) refl
-  where
-    found : (o : Option ℕ) → least n p ≡ o → is_some (least n p) ≡ true
-    found (Some j) e = ap is_some e
-    found None e = absurd (false≢true (sym (least-none n p e k below) ∙ passes))
 
 and_both : (a b : Bool) → a ≡ true → b ≡ true → (a && b) ≡ true
 and_both a b ea eb = ap (λ t. t && b) ea ∙ eb

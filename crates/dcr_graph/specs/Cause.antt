@@ -1,5 +1,6 @@
 -- Why an atom can't be executed at a marking, which atoms can, and what a marking waits for.
-use Rattle.std.specs.Prelude.{ℕ, Bool, not, ◌&&◌, Option, Some, None, is_none, option_map, if◌then◌else◌}
+use Rattle.std.specs.Prelude.{ℕ, Bool, not, ◌&&◌, Option, Some, is_none, option_map, if◌then◌else◌}
+use Rattle.std.specs.Option.{option_or}
 use Rattle.dcr_set.specs.Least.{least}
 use Rattle.dcr_set.specs.EventSet.{Set, has, those}
 use Rattle.dcr_graph.specs.Rules.{Rules}
@@ -16,14 +17,11 @@ is_open_condition G M e c = G.related kind.Condition c e && (has M.included c &&
 abbrev pub is_pending_milestone : Rules → Marking → ℕ → ℕ → Bool
 is_pending_milestone G M e m = G.related kind.Milestone m e && (has M.included m && has M.pending m)
 
--- the condition found blocks, else the milestone found
-abbrev pub first_block : Option ℕ → Option ℕ → Option Cause
-first_block (Some c) milestone = Some (Condition c)
-first_block None milestone = option_map Milestone milestone
-
 -- the cause that blocks e, the first that holds: excluded; the least open condition; the least pending milestone
 abbrev pub cause : Rules → Marking → ℕ → Option Cause
-cause G M e = if has M.included e then first_block (least G.atoms (is_open_condition G M e)) (least G.atoms (is_pending_milestone G M e)) else Some Excluded
+cause G M e = if has M.included e
+    then option_or (option_map Condition (least G.atoms (is_open_condition G M e))) (option_map Milestone (least G.atoms (is_pending_milestone G M e)))
+    else Some Excluded
 
 -- a is an atom of S that no cause blocks
 abbrev pub is_enabled_in : Rules → Set → Marking → ℕ → Bool

@@ -9,7 +9,7 @@ abbrev pub flat_of : Inside → Flat
 flat_of g = record { names = g.names.items; labels = g.labels.items; tables = g.tables.items }
 
 -- one label and, of each of the six kinds, one row for each name, and no name twice
-pub record IsGraph (g : Inside) : Type 0 where
+pub record FitsNames (g : Inside) : Type 0 where
   pub most : length g.names.items ≤ 1024
   pub as_many_labels : length g.labels.items ≡ length g.names.items
   pub distinct : AreDistinct g.names.items

@@ -71,8 +71,12 @@ local_step G S m e = record {
   included = those G.atoms (included_after (local_rules G S) (as_marking m) e);
 }
 
--- a marking over n atoms: each set has that room
-pub record HasRoom (n : ℕ) (M : Marking) : Type 0 where
-  pub executed : length M.executed ≡ n
-  pub pending : length M.pending ≡ n
-  pub included : length M.included ≡ n
+-- three sets over so many atoms, as those of a marking and of a site's marks are: each has that room
+pub record FitsAtoms (atoms : ℕ) (Ex Re In : Set) : Type 0 where
+  pub executed : length Ex ≡ atoms
+  pub pending : length Re ≡ atoms
+  pub included : length In ≡ atoms
+
+-- a marking over n atoms
+abbrev pub HasRoom : ℕ → Marking → Type 0
+HasRoom n M = FitsAtoms n M.executed M.pending M.included

@@ -44,11 +44,11 @@ impl Model for Graph {
 
     ghost Value = { Flat };
 
-    ghost use Rattle.dcr_graph.specs.GraphModel.{flat_of, IsGraph};
+    ghost use Rattle.dcr_graph.specs.GraphModel.{flat_of, FitsNames};
 
     ghost view = { flat_of };
 
-    ghost invariant = { IsGraph };
+    ghost invariant = { FitsNames };
 }
 
 impl Graph {

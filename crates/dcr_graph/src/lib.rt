@@ -4,6 +4,7 @@
 mod graph;
 mod kind;
 mod label;
+mod laws;
 mod marking;
 mod name;
 mod table;
@@ -11,6 +12,7 @@ mod table;
 pub use graph::{Graph, GraphStop};
 pub use kind::{Cause, Kind};
 pub use label::{Label, LabelStop};
+pub use laws::{the_cause_is_the_first_that_blocks, the_least_that_waits_is_told};
 pub use marking::{Marking, SiteMark};
 pub use name::{Name, NameStop};
 pub use table::Table;

@@ -54,7 +54,7 @@ fn told(place: u32) -> Entry {
     }
 }
 
-fn is_told(found: Option<&Entry>, place: u32) -> bool {
+fn is_told(found: Option<Entry>, place: u32) -> bool {
     let Some(entry) = found else {
         return false;
     };

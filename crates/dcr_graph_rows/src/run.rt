@@ -142,7 +142,7 @@ fn answered(alloc: Global, outcome: &Outcome) -> Result<String, AllocError> {
 }
 
 // The session, the seq and the answer of an entry.
-fn told(alloc: Global, entry: Option<&Entry>) -> Result<String, AllocError> {
+fn told(alloc: Global, entry: Option<Entry>) -> Result<String, AllocError> {
     match entry {
         Some(entry) => {
             let answer = answered(alloc, &entry.outcome)?;

@@ -1,3 +1,4 @@
 pub mod BlockLemmas
 pub mod HistoryLemmas
 pub mod RunLemmas
+pub mod SoundLemmas

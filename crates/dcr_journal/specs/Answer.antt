@@ -8,6 +8,8 @@ use Rattle.dcr_graph.specs.Projection.{project}
 use Rattle.dcr_graph.specs.declared.kind.Cause.{Cause}
 use Rattle.dcr_graph.specs.declared.kind.Cause.TheVariants as why
 use Rattle.dcr_graph.specs.declared.marking.Marking.{Marking}
+use Rattle.dcr_site.specs.declared.site.Decision.{Decision}
+use Rattle.dcr_site.specs.declared.site.Decision.TheVariants as decided
 use Rattle.dcr_journal.specs.declared.call.Call.{Call}
 use Rattle.dcr_journal.specs.declared.call.Call.TheVariants.{Exec, Look, Enabled, Accepting}
 use Rattle.dcr_journal.specs.declared.call.Outcome.{Outcome}
@@ -19,6 +21,12 @@ outcome_of None = Done
 outcome_of (Some why.Excluded) = Excluded
 outcome_of (Some (why.Condition c)) = Condition c
 outcome_of (Some (why.Milestone m)) = Milestone m
+
+-- the outcome that tells what a site decides, where the event is executed if it is enabled
+abbrev pub outcome_decided : Decision → Outcome
+outcome_decided decided.NotHere = NotHere
+outcome_decided decided.Enabled = Done
+outcome_decided (decided.Blocked why) = outcome_of (Some why)
 
 -- the verdict: the atom that is waited for, or all done where there is none
 abbrev pub verdict_of : Option ℕ → Outcome

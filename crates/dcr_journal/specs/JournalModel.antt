@@ -9,7 +9,7 @@ history_of j = record { entries = entries_in j.blocks.items; capacity = j.capaci
 
 -- the blocks in use have the entries that are counted; with the blocks in the pool they have room for the capacity,
 -- and there is a place for each of these
-pub record HasRoom (j : Inside) : Type 0 where
+pub record FitsCapacity (j : Inside) : Type 0 where
   pub most : j.capacity ≤ 200000
   pub within : j.len ≤ j.capacity
   pub filled : HasEntries j.blocks.items j.len

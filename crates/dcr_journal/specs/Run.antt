@@ -1,6 +1,7 @@
 -- Runs: the marking after a list of entries, which lists are runs of the graph, and the run that sessions have
 -- when they go one after the other.
 use Rattle.std.specs.Prelude.{◌≡◌, ◌⊎◌, ℕ, ◌+◌, ◌<◌, Bool, false, List, [], ◌∷◌, ◌++◌, ◌==◌, length, map, filter, fold, take, count_by, slice_get, Some, None, Option}
+use Rattle.std.specs.List.{All}
 use Rattle.std.specs.Option.{option_map_or}
 use Rattle.dcr_set.specs.EventSet.{Set}
 use Rattle.dcr_graph.specs.Rules.{Rules}
@@ -63,6 +64,15 @@ pub record IsLegalAt (G : Rules) (C : List Set) (M : Marking) (J : List Entry) (
 -- J is a run of the graph from M
 abbrev pub IsLegal : Rules → List Set → Marking → List Entry → Type 0
 IsLegal G C M J = (place : ℕ) (entry : Entry) → slice_get J place ≡ Some entry → IsLegalAt G C M J place entry
+
+-- no entry of J is a fault
+abbrev pub HasNoFault : List Entry → Type 0
+HasNoFault J = All (λ (entry : Entry). entry.outcome ≡ Faulted → ⊥) J
+
+-- J is a run of the graph from M that may go on: nothing failed in it
+pub record IsSound (G : Rules) (C : List Set) (M : Marking) (J : List Entry) : Type 0 where
+  pub legal : IsLegal G C M J
+  pub no_fault : HasNoFault J
 
 -- each call with the number of its session, the sessions one after the other from this number on
 abbrev pub numbered : ℕ → List (List Call) → List (ℕ × Call)

@@ -1,5 +1,6 @@
 use dcr_graph::{Cause, SiteMark};
 use dcr_set::{EventId, EventSet, SiteId};
+use dcr_site::Decision;
 
 /// What a session asks.
 #[derive(Clone, Copy, Debug, PartialEq, Eq)]
@@ -43,7 +44,7 @@ pub enum Outcome {
 
 impl Outcome {
     ghost use Rattle.std.specs.Prelude.{◌≡◌};
-    ghost use Rattle.dcr_journal.specs.Answer.{outcome_of, verdict_of};
+    ghost use Rattle.dcr_journal.specs.Answer.{outcome_of, outcome_decided, verdict_of};
 
     /// What an execution that this cause blocks is answered, or one that no cause blocks.
     pub fn of_cause(cause: Option<Cause>) -> Outcome
@@ -57,6 +58,17 @@ impl Outcome {
         }
     }
 
+    /// What an execution is answered of which a site decides this, where it is done if the event is enabled.
+    pub fn of_decision(decision: Decision) -> Outcome
+        ensures { result ≡ outcome_decided decision }
+    {
+        match decision {
+            Decision::NotHere => Outcome::NotHere,
+            Decision::Enabled => Outcome::of_cause(None),
+            Decision::Blocked(cause) => Outcome::of_cause(Some(cause)),
+        }
+    }
+
     /// What the question whether the marking is accepting is answered, where it waits for this event, or for none.
     pub fn verdict(waits: Option<EventId>) -> Outcome
         ensures { result ≡ verdict_of waits }
@@ -64,6 +76,24 @@ impl Outcome {
         match waits {
             None => Outcome::AllDone,
             Some(e) => Outcome::Waits(e),
+        }
+    }
+
+    /// The same outcome again. Takes no memory.
+    pub fn copy(&self) -> Outcome
+        ensures { result ≡ self.now }
+    {
+        match self {
+            Outcome::Done => Outcome::Done,
+            Outcome::NotHere => Outcome::NotHere,
+            Outcome::Excluded => Outcome::Excluded,
+            Outcome::Condition(e) => Outcome::Condition(*e),
+            Outcome::Milestone(e) => Outcome::Milestone(*e),
+            Outcome::Faulted => Outcome::Faulted,
+            Outcome::Marks(mark) => Outcome::Marks(mark.copy()),
+            Outcome::Can(set) => Outcome::Can(set.copy()),
+            Outcome::AllDone => Outcome::AllDone,
+            Outcome::Waits(e) => Outcome::Waits(*e),
         }
     }
 }
@@ -77,4 +107,20 @@ pub struct Entry {
     pub seq: u32,
     pub call: Call,
     pub outcome: Outcome,
+}
+
+impl Entry {
+    ghost use Rattle.std.specs.Prelude.{◌≡◌};
+
+    /// The same entry again. Takes no memory.
+    pub fn copy(&self) -> Entry
+        ensures { result ≡ self.now }
+    {
+        Entry {
+            session: self.session,
+            seq: self.seq,
+            call: self.call,
+            outcome: self.outcome.copy(),
+        }
+    }
 }

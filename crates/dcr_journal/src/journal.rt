@@ -24,11 +24,11 @@ impl Model for Journal {
 
     ghost Value = { History };
 
-    ghost use Rattle.dcr_journal.specs.JournalModel.{history_of, HasRoom};
+    ghost use Rattle.dcr_journal.specs.JournalModel.{history_of, FitsCapacity};
 
     ghost view = { history_of };
 
-    ghost invariant = { HasRoom };
+    ghost invariant = { FitsCapacity };
 }
 
 impl Journal {
@@ -81,17 +81,28 @@ impl Journal {
         self.len == 0
     }
 
-    /// The entry at a place, from 0. None exactly where the place is not below the length.
-    pub fn get(&self, place: u32) -> Option<&Entry>
+    /// The entry at a place, from 0, as a value of its own. None exactly where the place is not below the length.
+    /// Takes no memory.
+    pub fn get(&self, place: u32) -> Option<Entry>
+        ensures { result ≡ slice_get self.now.entries place }
+    {
+        match self.kept(place) {
+            Some(entry) => Some(entry.copy()),
+            None => None,
+        }
+    }
+
+    // The entry at a place, where it lies.
+    fn kept(&self, place: u32) -> Option<&Entry>
         ensures { option_map (λ entry. entry.now) result ≡ slice_get self.now.entries place }
     {
         let block = self.blocks.get((place / PER_BLOCK) as usize)?;
         block.get((place % PER_BLOCK) as usize)
     }
 
-    /// The last entry. None exactly where there is none.
-    pub fn last(&self) -> Option<&Entry>
-        ensures { option_map (λ entry. entry.now) result ≡ slice_get self.now.entries (length self.now.entries - 1) }
+    /// The last entry, as a value of its own. None exactly where there is none. Takes no memory.
+    pub fn last(&self) -> Option<Entry>
+        ensures { result ≡ slice_get self.now.entries (length self.now.entries - 1) }
     {
         self.get(self.len.saturating_sub(1))
     }

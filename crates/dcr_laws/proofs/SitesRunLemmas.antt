@@ -31,7 +31,7 @@ mark_of-marks_at : (G : Rules) (C : List Set) (N : Marking) (i : ℕ) → i < le
 mark_of-marks_at G C N i below = get_or-map (λ S. project G S N) C i [] no_mark below
 
 -- what a site decides of an event, where it owns it or not
-decided : (G : Rules) (S : Set) (N : Marking) (e : ℕ) → e < G.atoms → (owned : Bool) → has S e ≡ owned
+pub decided : (G : Rules) (S : Set) (N : Marking) (e : ℕ) → e < G.atoms → (owned : Bool) → has S e ≡ owned
     → cond owned (outcome_of (cause_at G S (project G S N) e)) NotHere ≡ cond owned (outcome_of (cause G N e)) NotHere
 decided G S N e atom true owned = ap outcome_of (local_cause G S N e owned atom)
 decided G S N e atom false owned = refl
@@ -42,7 +42,8 @@ enabled_alike : (G : Rules) (S : Set) (N : Marking) (e : ℕ) → e < G.atoms �
 enabled_alike G S N e atom true owned = ap is_none (local_cause G S N e owned atom)
 enabled_alike G S N e atom false owned = refl
 
-enabled_at-project : (G : Rules) (S : Set) (N : Marking) → enabled_at G S (project G S N) ≡ enabled_in G S N
+-- what is enabled at a site, by its projection
+pub enabled_at-project : (G : Rules) (S : Set) (N : Marking) → enabled_at G S (project G S N) ≡ enabled_in G S N
 enabled_at-project G S N = those-ext G.atoms (λ a. has S a && is_none (cause_at G S (project G S N) a)) (λ a. has S a && is_none (cause G N a))
     (λ a below. enabled_alike G S N a below (has S a) refl)
 

@@ -1,24 +1,27 @@
 -- What the told run of sessions holds, and that a run of the graph is answered done.
-use Rattle.std.proofs.Common.{◌≡◌, ℕ, zero, suc, ◌+◌, ◌<◌, Bool, true, false, ◌||◌, eqb, List, [], ◌∷◌, ◌++◌, length, map, get_or, None, cond, refl, sym, ap, subst, ◌∙◌, append_assoc, arith}
+use Rattle.std.proofs.Common.{◌≡◌, ℕ, zero, suc, ◌+◌, ◌<◌, Bool, true, false, ◌||◌, eqb, List, [], ◌∷◌, ◌++◌, length, map, get_or, None, inl, inr, cond, refl, sym, ap, subst, ◌∙◌, append_assoc, arith}
 use Rattle.std.specs.List.{All, fold, filter}
-use Rattle.std.proofs.lemmas.Bool.{eq-eqb, ne_eqb, false≢true}
-use Rattle.std.proofs.lemmas.List.{append-nil, map-append}
-use Rattle.std.proofs.lemmas.List.Elements.{filter-append, All-nil, All-cons, All-head, All-tail, All-append, All-push}
+use Rattle.std.proofs.lemmas.Bool.{cases_lt, eq-eqb, ne_eqb, false≢true}
+use Rattle.std.proofs.lemmas.List.{append-nil, get_or_past, map-append}
+use Rattle.std.proofs.lemmas.List.Elements.{filter-append, All-nil, All-cons, All-head, All-tail, All-append, All-map, All-push}
 use Rattle.std.proofs.lemmas.List.Sums.{fold_push}
 use Rattle.dcr_set.specs.EventSet.{Set, has}
+use Rattle.dcr_set.proofs.SetLemmas.{has_past, length-those}
 use Rattle.dcr_graph.specs.Rules.{Rules}
 use Rattle.dcr_graph.specs.Rows.{row}
 use Rattle.dcr_graph.specs.Cause.{cause}
 use Rattle.dcr_graph.specs.Step.{step}
 use Rattle.dcr_graph.specs.declared.marking.Marking.{Marking}
-use Rattle.dcr_proj.specs.CoverValue.{is_owned}
+use Rattle.dcr_graph.proofs.CauseLemmas.{cause_is_what_blocks}
+use Rattle.dcr_proj.specs.CoverValue.{is_owned, IsCovered}
 use Rattle.dcr_journal.specs.Answer.{answer, outcome_of}
-use Rattle.dcr_journal.specs.Run.{stepped_by, after, calls_of, numbered, told_next, told}
+use Rattle.dcr_journal.specs.Run.{IsInRange, IsSound, stepped_by, after, calls_of, numbered, told_next, told}
 use Rattle.dcr_journal.specs.declared.call.Call.{Call}
 use Rattle.dcr_journal.specs.declared.call.Call.TheVariants.{Exec}
 use Rattle.dcr_journal.specs.declared.call.Outcome.TheVariants.{Done, NotHere}
 use Rattle.dcr_journal.specs.declared.call.Entry.{Entry}
-use Rattle.dcr_laws.specs.Laws.{ToldHasEachCall, ToldHasNoOtherSession, IsRun, calls_for, ARunIsDone, EachListIsSpelled}
+use Rattle.dcr_journal.proofs.SoundLemmas.{sound_none, sound_more}
+use Rattle.dcr_laws.specs.Laws.{ToldHasEachCall, ToldHasNoOtherSession, ToldIsSound, IsRun, Spell, calls_for, ARunIsDone, ARunIsOfAtoms, EachRunIsSpelled}
 
 -- what was asked by an entry
 abbrev asked_by : Entry → ℕ × Call
@@ -114,6 +117,30 @@ pub told_has_no_other_session : ToldHasNoOtherSession
 told_has_no_other_session G C M sessions =
     told_all (λ k. k < length sessions) G C M (numbered 0 sessions) [] (All-nil (λ (entry : Entry). entry.session < length sessions)) (numbered_below (length sessions) 0 sessions (omega arith))
 
+-- ---- the told run is sound
+
+-- the calls of the sessions are in range where the sessions are
+numbered_within : (sites atoms session : ℕ) (sessions : List (List Call)) → All (λ (calls : List Call). All (IsInRange sites atoms) calls) sessions
+    → All (λ (a : ℕ × Call). IsInRange sites atoms a.1) (numbered session sessions)
+numbered_within sites atoms session [] within = All-nil (λ (a : ℕ × Call). IsInRange sites atoms a.1)
+numbered_within sites atoms session (calls ∷ sessions) within =
+    let P : ℕ × Call → Type 0 = λ a. IsInRange sites atoms a.1 in
+    let Q : List Call → Type 0 = λ c. All (IsInRange sites atoms) c in
+    All-append P (map (λ call. (session, call)) calls) (numbered (session + 1) sessions)
+    (All-map P (λ call. (session, call)) calls (All-head Q calls sessions within)) (numbered_within sites atoms (session + 1) sessions (All-tail Q calls sessions within))
+
+-- each call more is answered
+sound_from : (G : Rules) (C : List Set) (M : Marking) (asked : List (ℕ × Call)) (J : List Entry) → All (λ (a : ℕ × Call). IsInRange (length C) G.atoms a.1) asked
+    → IsSound G C M J → IsSound G C M (fold (told_next G C M) J asked)
+sound_from G C M [] J in_range before = before
+sound_from G C M (a ∷ asked) J in_range before =
+    sound_from G C M asked (told_next G C M J a) (All-tail (λ (x : ℕ × Call). IsInRange (length C) G.atoms x.1) a asked in_range)
+    (sound_more G C M J before _ (All-head (λ (x : ℕ × Call). IsInRange (length C) G.atoms x.1) a asked in_range) refl refl)
+
+pub told_is_sound : ToldIsSound
+told_is_sound G C M sessions in_range =
+    sound_from G C M (numbered 0 sessions) [] (numbered_within (length C) G.atoms 0 sessions in_range) (sound_none G C M)
+
 -- ---- runs
 
 -- an owned event without a cause is done
@@ -151,7 +178,7 @@ owner : (C : List Set) (e : ℕ) → is_owned C e ≡ true → (site : ℕ) × (
 owner [] e owned = absurd (false≢true owned)
 owner (S ∷ C) e owned = owner_here S C e (has S e) refl owned (owner C e)
 
-pub each_list_is_spelled : EachListIsSpelled
+each_list_is_spelled : (G : Rules) (C : List Set) (events : List ℕ) → IsCovered G.atoms C → All (λ e. e < G.atoms) events → (executions : List (ℕ × ℕ)) × Spell C events executions
 each_list_is_spelled G C [] covered atoms = ([], record { events = refl; owned = All-nil (λ (x : ℕ × ℕ). has (row C x.0) x.1 ≡ true) })
 each_list_is_spelled G C (e ∷ events) covered atoms =
     let site = owner C e (covered e (All-head (λ a. a < G.atoms) e events atoms)) in
@@ -162,3 +189,39 @@ each_list_is_spelled G C (e ∷ events) covered atoms =
         owned = All-cons (λ (x : ℕ × ℕ). has (row C x.0) x.1 ≡ true) (site.0, e) rest.0 site.1 rest.1.owned;
       },
     )
+
+-- a member is below the room
+member_below : (s : Set) (n e : ℕ) → length s ≡ n → has s e ≡ true → e < n
+member_below s n e room member = elim (cases_lt e (length s)) [ inl below ↦ omega arith | inr past ↦ absurd (false≢true (sym (has_past s e past) ∙ member)) ]
+
+-- an event that isn't included is excluded, so the events of a run are atoms
+pub a_run_is_of_atoms : ARunIsOfAtoms
+a_run_is_of_atoms G M [] room run = All-nil (λ e. e < G.atoms)
+a_run_is_of_atoms G M (e ∷ events) room run =
+    All-cons (λ a. a < G.atoms) e events
+    (member_below M.included G.atoms e room.included ((cause_is_what_blocks G M e None).0 run.0).0)
+    (a_run_is_of_atoms G (step G M e) events (record { executed = length-those G.atoms _; pending = length-those G.atoms _; included = length-those G.atoms _ }) run.1)
+
+-- a site that owns an event is one of the sites
+site_below : (C : List Set) (site e : ℕ) → has (row C site) e ≡ true → site < length C
+site_below C site e owned = elim (cases_lt site (length C)) [
+  | inl below ↦ below
+  | inr past ↦ absurd (false≢true (sym (ap (λ s. has s e) (get_or_past C site [] past) ∙ has_past [] e (omega arith)) ∙ owned))
+]
+
+spelled_in_range : (G : Rules) (C : List Set) (executions : List (ℕ × ℕ)) → All (λ (x : ℕ × ℕ). has (row C x.0) x.1 ≡ true) executions
+    → All (λ e. e < G.atoms) (map (λ (x : ℕ × ℕ). x.1) executions) → All (IsInRange (length C) G.atoms) (calls_for executions)
+spelled_in_range G C [] owned atoms = All-nil (IsInRange (length C) G.atoms)
+spelled_in_range G C ((site, e) ∷ executions) owned atoms =
+    let Owned : ℕ × ℕ → Type 0 = λ x. has (row C x.0) x.1 ≡ true in
+    let events = map (λ (x : ℕ × ℕ). x.1) executions in
+    All-cons (IsInRange (length C) G.atoms) (Exec site e) (calls_for executions)
+    (site_below C site e (All-head Owned (site, e) executions owned), All-head (λ a. a < G.atoms) e events atoms)
+    (spelled_in_range G C executions (All-tail Owned (site, e) executions owned) (All-tail (λ a. a < G.atoms) e events atoms))
+
+pub each_run_is_spelled : EachRunIsSpelled
+each_run_is_spelled G C M events covered room run =
+    let atoms = a_run_is_of_atoms G M events room run in
+    let spelled = each_list_is_spelled G C events covered atoms in
+    let Atoms : List ℕ → Type 0 = λ es. All (λ e. e < G.atoms) es in
+    (spelled.0, spelled.1, spelled_in_range G C spelled.0 spelled.1.owned (subst Atoms (sym spelled.1.events) atoms))

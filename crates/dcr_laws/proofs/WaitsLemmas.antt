@@ -1,9 +1,9 @@
 -- What the sites of a cover wait for is what the graph waits for.
-use Rattle.std.proofs.Common.{◌≡◌, ℕ, zero, suc, ◌<◌, Bool, true, false, ◌&&◌, ◌||◌, List, [], ◌∷◌, map, Option, Some, None, refl, sym, ap, ◌∙◌, arith}
+use Rattle.std.proofs.Common.{◌≡◌, ℕ, Bool, true, false, ◌&&◌, ◌||◌, List, [], ◌∷◌, map, refl, sym, ap, ◌∙◌}
 use Rattle.std.specs.List.{zip, fold}
-use Rattle.dcr_set.specs.Least.{least, or_this}
+use Rattle.dcr_set.specs.Least.{least, lesser}
 use Rattle.dcr_set.specs.EventSet.{Set, has}
-use Rattle.dcr_set.proofs.LeastLemmas.{least-ext, least-none_from, least-some}
+use Rattle.dcr_set.proofs.LeastLemmas.{least-ext, least-none_from, lesser-least}
 use Rattle.dcr_set.proofs.SetLemmas.{has-those}
 use Rattle.dcr_graph.specs.Rules.{Rules}
 use Rattle.dcr_graph.specs.Projection.{project, tracks_included, tracks_pending, is_condition_source, is_milestone_source}
@@ -11,29 +11,8 @@ use Rattle.dcr_graph.specs.declared.marking.Marking.{Marking}
 use Rattle.dcr_graph.proofs.BoolLemmas.{and_true, or_false}
 use Rattle.dcr_proj.specs.CoverValue.{is_owned}
 use Rattle.dcr_journal.specs.Run.{marks_at}
-use Rattle.dcr_laws.specs.AtSites.{Site, lesser, waits_at}
+use Rattle.dcr_laws.specs.AtSites.{Site, waits_at}
 use Rattle.dcr_laws.specs.Laws.{SitesWaitAsTheGraph}
-
--- two numbers below n, each replaced by n where it is missing and a test says so
-lesser_or_this : (a b : Option ℕ) (n : ℕ) (p q : Bool) → ((k : ℕ) → a ≡ Some k → k < n) → ((k : ℕ) → b ≡ Some k → k < n)
-    → lesser (or_this a n p) (or_this b n q) ≡ or_this (lesser a b) n (p || q)
-lesser_or_this (Some i) (Some j) n p q ha hb = refl
-lesser_or_this (Some i) None n p true ha hb = let below = ha i refl in ap Some (omega arith)
-lesser_or_this (Some i) None n p false ha hb = refl
-lesser_or_this None (Some j) n true q ha hb = let below = hb j refl in ap Some (omega arith)
-lesser_or_this None (Some j) n false q ha hb = refl
-lesser_or_this None None n true true ha hb = ap Some (omega arith)
-lesser_or_this None None n true false ha hb = refl
-lesser_or_this None None n false true ha hb = refl
-lesser_or_this None None n false false ha hb = refl
-
--- the lesser of the least that pass two tests is the least that passes one of them
-pub lesser-least : (n : ℕ) (p q : ℕ → Bool) → lesser (least n p) (least n q) ≡ least n (λ a. p a || q a)
-unfolding least
-lesser-least zero p q = refl
-lesser-least (suc n) p q =
-    lesser_or_this (least n p) (least n q) n (p n) (q n) (λ k found. (least-some n p k found).below) (λ k found. (least-some n q k found).below)
-    ∙ ap (λ o. or_this o n (p n || q n)) (lesser-least n p q)
 
 -- an owned event is tracked
 owned_and_tracked : (owned included pending x y : Bool) → (owned && ((included && (owned || x)) && (pending && (owned || y)))) ≡ (owned && (included && pending))
@@ -41,7 +20,7 @@ owned_and_tracked true included pending x y = ap (λ t. t && (pending && true)) 
 owned_and_tracked false included pending x y = refl
 
 -- what a site waits for, by its projection
-waits_at-project : (G : Rules) (S : Set) (M : Marking) → waits_at G.atoms S (project G S M) ≡ least G.atoms (λ a. has S a && (has M.included a && has M.pending a))
+pub waits_at-project : (G : Rules) (S : Set) (M : Marking) → waits_at G.atoms S (project G S M) ≡ least G.atoms (λ a. has S a && (has M.included a && has M.pending a))
 waits_at-project G S M = least-ext G.atoms (λ a. has S a && (has (project G S M).included a && has (project G S M).pending a)) (λ a. has S a && (has M.included a && has M.pending a)) (λ a below.
     ap (λ t. has S a && (t && has (project G S M).pending a)) (has-those G.atoms (λ k. has M.included k && tracks_included G S k) a below)
     ∙ ap (λ t. has S a && ((has M.included a && tracks_included G S a) && t)) (has-those G.atoms (λ k. has M.pending k && tracks_pending G S k) a below)

@@ -1,8 +1,8 @@
 -- What sites tell by their own marks. A marking of the whole graph is never read here, and the relations only as a
 -- site's projection has them: its local rules, its alphabet and what it tracks.
-use Rattle.std.specs.Prelude.{ℕ, ◌&&◌, List, [], map, fold, min, Option, Some, None, if◌then◌else◌, slice_index_or}
+use Rattle.std.specs.Prelude.{ℕ, ◌&&◌, List, [], map, fold, Option, None, if◌then◌else◌, slice_index_or}
 use Rattle.std.specs.List.{zip}
-use Rattle.dcr_set.specs.Least.{least}
+use Rattle.dcr_set.specs.Least.{least, lesser}
 use Rattle.dcr_set.specs.EventSet.{Set, has}
 use Rattle.dcr_graph.specs.Rules.{Rules}
 use Rattle.dcr_graph.specs.Cause.{cause, enabled_in}
@@ -33,12 +33,6 @@ enabled_at G S m = enabled_in (local_rules G S) S (as_marking m)
 -- the least owned atom that is included and pending by a site's marks
 abbrev pub waits_at : ℕ → Set → SiteMark → Option ℕ
 waits_at atoms S m = least atoms (λ a. has S a && (has m.included a && has m.pending a))
-
--- the lesser of two numbers, where either may be missing
-abbrev pub lesser : Option ℕ → Option ℕ → Option ℕ
-lesser None b = b
-lesser (Some a) None = Some a
-lesser (Some a) (Some b) = Some (min a b)
 
 -- the least of the numbers that are there
 abbrev pub least_of : List (Option ℕ) → Option ℕ

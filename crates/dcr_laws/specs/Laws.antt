@@ -6,14 +6,15 @@ use Rattle.dcr_graph.specs.Rules.{Rules}
 use Rattle.dcr_graph.specs.Rows.{row}
 use Rattle.dcr_graph.specs.Cause.{cause, waits}
 use Rattle.dcr_graph.specs.Step.{step}
-use Rattle.dcr_graph.specs.Projection.{in_alphabet, project, local_step}
+use Rattle.dcr_graph.specs.Projection.{in_alphabet, project, local_step, HasRoom}
 use Rattle.dcr_graph.specs.declared.marking.Marking.{Marking}
-use Rattle.dcr_journal.specs.Run.{IsInRange, after, calls_of, touches, told, marks_at}
+use Rattle.dcr_journal.specs.Run.{IsInRange, IsSound, after, calls_of, touches, told, marks_at}
 use Rattle.dcr_journal.specs.declared.call.Call.{Call}
 use Rattle.dcr_journal.specs.declared.call.Call.TheVariants.{Exec}
 use Rattle.dcr_journal.specs.declared.call.Outcome.TheVariants.{Done}
 use Rattle.dcr_journal.specs.declared.call.Entry.{Entry}
 use Rattle.dcr_proj.specs.CoverValue.{IsCovered}
+use Rattle.dcr_proj.specs.Local.{projection_of}
 use Rattle.dcr_laws.specs.AtSites.{cause_at, waits_over}
 use Rattle.dcr_laws.specs.SitesRun.{run_of_sites, run_of_graph}
 
@@ -39,6 +40,13 @@ UntouchedMarksStay = (G : Rules) (S : Set) (M : Marking) (beginning rest : List 
     → touches (in_alphabet G S) beginning ≡ touches (in_alphabet G S) (beginning ++ rest)
     → project G S (after G M beginning) ≡ project G S (after G M (beginning ++ rest))
 
+-- the same for the alphabet as a set, as a site's projection has it, where the calls of the rest are in range
+abbrev pub UntouchedByTheSet : Type 0
+UntouchedByTheSet = (G : Rules) (S : Set) (M : Marking) (sites : ℕ) (beginning rest : List Entry)
+    → All (λ (entry : Entry). IsInRange sites G.atoms entry.call) rest
+    → touches (has (projection_of G S).alphabet) beginning ≡ touches (has (projection_of G S).alphabet) (beginning ++ rest)
+    → project G S (after G M beginning) ≡ project G S (after G M (beginning ++ rest))
+
 -- the run of the sites of a cover is the run of the graph: the same entries, and the marks after them are projections
 abbrev pub SitesRunAsTheGraph : Type 0
 SitesRunAsTheGraph = (G : Rules) (C : List Set) (M : Marking) (asked : List (ℕ × Call)) → IsCovered G.atoms C
@@ -50,6 +58,11 @@ ToldHasEachCall = (G : Rules) (C : List Set) (M : Marking) (sessions : List (Lis
 
 abbrev pub ToldHasNoOtherSession : Type 0
 ToldHasNoOtherSession = (G : Rules) (C : List Set) (M : Marking) (sessions : List (List Call)) → All (λ (entry : Entry). entry.session < length sessions) (told G C M sessions)
+
+-- where the calls are in range the told run is a run of the graph in which nothing failed
+abbrev pub ToldIsSound : Type 0
+ToldIsSound = (G : Rules) (C : List Set) (M : Marking) (sessions : List (List Call)) → All (λ calls. All (IsInRange (length C) G.atoms) calls) sessions
+    → IsSound G C M (told G C M sessions)
 
 -- the events can be executed one after the other from M: the first has no cause at M, and so on from the marking stepped by it
 abbrev pub IsRun : Rules → Marking → List ℕ → Type 0
@@ -70,6 +83,11 @@ abbrev pub ARunIsDone : Type 0
 ARunIsDone = (G : Rules) (C : List Set) (M : Marking) (events : List ℕ) (executions : List (ℕ × ℕ)) → IsRun G M events → Spell C events executions
     → All (λ (entry : Entry). entry.outcome ≡ Done) (told G C M (calls_for executions ∷ []))
 
--- where the owned sets cover the atoms, each list of atoms is spelled by some executions
-abbrev pub EachListIsSpelled : Type 0
-EachListIsSpelled = (G : Rules) (C : List Set) (events : List ℕ) → IsCovered G.atoms C → All (λ e. e < G.atoms) events → (executions : List (ℕ × ℕ)) × Spell C events executions
+-- the events of a run from a marking with the graph's room are atoms
+abbrev pub ARunIsOfAtoms : Type 0
+ARunIsOfAtoms = (G : Rules) (M : Marking) (events : List ℕ) → HasRoom G.atoms M → IsRun G M events → All (λ e. e < G.atoms) events
+
+-- where the owned sets cover the atoms, each run from a marking with the graph's room is spelled by some executions, each a site and an atom that there are
+abbrev pub EachRunIsSpelled : Type 0
+EachRunIsSpelled = (G : Rules) (C : List Set) (M : Marking) (events : List ℕ) → IsCovered G.atoms C → HasRoom G.atoms M → IsRun G M events
+    → (executions : List (ℕ × ℕ)) × Spell C events executions × All (IsInRange (length C) G.atoms) (calls_for executions)

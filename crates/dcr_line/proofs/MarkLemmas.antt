@@ -7,8 +7,8 @@ use Rattle.std.proofs.lemmas.List.{append-nil}
 use Rattle.std.proofs.lemmas.Option.{option_and_then_some, same_Some}
 use Rattle.std.proofs.lemmas.Slice.Eq.{bytes_eq-Decides}
 use Rattle.dcr_set.specs.EventSet.{Set}
+use Rattle.dcr_graph.specs.Projection.{FitsAtoms}
 use Rattle.dcr_graph.specs.declared.marking.SiteMark.{SiteMark}
-use Rattle.dcr_line.specs.Fits.{FitsAtoms}
 use Rattle.dcr_line.specs.Known.{AreNames}
 use Rattle.dcr_line.specs.Line.{list_text, mark_text, mark_words, spaced}
 use Rattle.dcr_line.specs.MarkLine.{MarksAreRead, list_from, list_in, mark_from, mark_in}
@@ -69,7 +69,7 @@ mark_front names words mark rest e =
     let third = list_front (codes "included") names pending.1 included.0 included.1 is_included in
     let read : SiteMark × List (List ℕ) = (record { executed = executed.0; pending = pending.0; included = included.0 }, included.1) in
     let same : read ≡ (mark, rest) = same_Some _ _ e3 in
-    let fits : FitsMark (length names) read.0 = record { executed_room = first.0; pending_room = second.0; included_room = third.0 } in
+    let fits : FitsMark (length names) read.0 = record { executed = first.0; pending = second.0; included = third.0 } in
     let said : words ≡ words_of_mark names read.0 ++ read.1 =
     first.1 ∙ ap (λ ws. codes "executed" ∷ list_text names executed.0 ∷ ws) (second.1 ∙ ap (λ ws. codes "pending" ∷ list_text names pending.0 ∷ ws) third.1) in
     subst (MarkIs names words) same (fits, said))))
@@ -79,15 +79,15 @@ pub mark_taken : (names : List (List ℕ)) → AreNames names → (mark : SiteMa
     → mark_from names (words_of_mark names mark ++ rest) ≡ Some (mark, rest)
 unfolding mark_from
 mark_taken names are mark rest fits =
-    rw (list_taken (codes "executed") names are mark.executed (codes "pending" ∷ list_text names mark.pending ∷ codes "included" ∷ list_text names mark.included ∷ rest) fits.executed_room)
-    (rw (list_taken (codes "pending") names are mark.pending (codes "included" ∷ list_text names mark.included ∷ rest) fits.pending_room)
-    (rw (list_taken (codes "included") names are mark.included rest fits.included_room) refl))
+    rw (list_taken (codes "executed") names are mark.executed (codes "pending" ∷ list_text names mark.pending ∷ codes "included" ∷ list_text names mark.included ∷ rest) fits.executed)
+    (rw (list_taken (codes "pending") names are mark.pending (codes "included" ∷ list_text names mark.included ∷ rest) fits.pending)
+    (rw (list_taken (codes "included") names are mark.included rest fits.included) refl))
 
 -- no word of marks has a space
 pub mark_lacks : (names : List (List ℕ)) → AreNames names → (mark : SiteMark) → FitsMark (length names) mark → list_all (lacks 32) (words_of_mark names mark) ≡ true
 mark_lacks names are mark fits =
-    rw (list_lacks names are mark.executed fits.executed_room)
-    (rw (list_lacks names are mark.pending fits.pending_room) (rw (list_lacks names are mark.included fits.included_room) refl))
+    rw (list_lacks names are mark.executed fits.executed)
+    (rw (list_lacks names are mark.pending fits.pending) (rw (list_lacks names are mark.included fits.included) refl))
 
 -- a text that is read as marks is the text of them
 pub mark_told : (names : List (List ℕ)) (text : List ℕ) (mark : SiteMark) → mark_in names text ≡ Some mark

@@ -1,18 +1,12 @@
 -- Which values have a text: their numbers are those of sites and atoms that there are, and an outcome is of its call's kind.
 use Rattle.std.specs.Prelude.{◌≡◌, ℕ, ◌<◌, Bool, true, false, length, ⊤}
-use Rattle.dcr_set.specs.EventSet.{Set}
+use Rattle.dcr_graph.specs.Projection.{FitsAtoms}
 use Rattle.dcr_journal.specs.Run.{IsInRange}
 use Rattle.dcr_journal.specs.declared.call.Call.{Call}
 use Rattle.dcr_journal.specs.declared.call.Call.TheVariants.{Exec, Look, Enabled, Accepting}
 use Rattle.dcr_journal.specs.declared.call.Outcome.{Outcome}
 use Rattle.dcr_journal.specs.declared.call.Outcome.TheVariants.{Done, NotHere, Excluded, Condition, Milestone, Faulted, Marks, Can, AllDone, Waits}
 use Rattle.dcr_journal.specs.declared.call.Entry.{Entry}
-
--- the room of each of the three sets is the number of atoms
-pub record FitsAtoms (atoms : ℕ) (executed pending included : Set) : Type 0 where
-  pub executed_room : length executed ≡ atoms
-  pub pending_room : length pending ≡ atoms
-  pub included_room : length included ≡ atoms
 
 -- the event that the outcome names is an atom, and the room of its sets is the number of atoms
 abbrev pub FitsOutcome : ℕ → Outcome → Type 0

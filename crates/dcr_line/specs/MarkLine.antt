@@ -4,8 +4,8 @@ use Rattle.std.specs.List.{list_any}
 use Rattle.std.specs.Str.{bytes_eq}
 use Rattle.dcr_set.specs.EventSet.{Set, no_event, those}
 use Rattle.dcr_graph.specs.Names.{number_of}
+use Rattle.dcr_graph.specs.Projection.{FitsAtoms}
 use Rattle.dcr_graph.specs.declared.marking.SiteMark.{SiteMark}
-use Rattle.dcr_line.specs.Fits.{FitsAtoms}
 use Rattle.dcr_line.specs.Known.{AreNames}
 use Rattle.dcr_line.specs.Line.{mark_text}
 use Rattle.dcr_line.specs.PiecesModel.{pieces_of}

@@ -1,5 +1,5 @@
 ghost use Rattle.std.specs.Prelude.{◌≡◌, length, option_map, IfSome};
-ghost use Rattle.dcr_line.specs.Fits.{FitsAtoms};
+ghost use Rattle.dcr_graph.specs.Projection.{FitsAtoms};
 ghost use Rattle.dcr_line.specs.Words.{first_by, behind};
 ghost use Rattle.dcr_graph.specs.Names.{number_of};
 ghost use Rattle.dcr_line.specs.MarkLine.{from_low, listed_in, list_in, list_from, mark_from, mark_in};

@@ -1,9 +1,10 @@
 // The words of lines, added to a text. Where memory runs out, what was added stays: the callers take it away.
 ghost use Rattle.std.specs.Prelude.{◌≡◌, ◌<◌, ◌++◌, length, codes, decimal, OnOk};
 ghost use Rattle.std.specs.List.{All};
+ghost use Rattle.dcr_graph.specs.Projection.{FitsAtoms};
 ghost use Rattle.dcr_journal.specs.Run.{IsInRange};
 ghost use Rattle.dcr_line.specs.Line.{call_text, comma_names, list_text, mark_text, outcome_text};
-ghost use Rattle.dcr_line.specs.Fits.{FitsAtoms, FitsOutcome};
+ghost use Rattle.dcr_line.specs.Fits.{FitsOutcome};
 ghost use Rattle.dcr_line.specs.Grown.{StartsWith};
 
 use dcr_graph::{Graph, Name};

@@ -1,7 +1,8 @@
 ghost use Rattle.std.specs.Prelude.{◌≡◌, ◌<◌, ◌++◌, length, OnOk, OnErr};
+ghost use Rattle.dcr_graph.specs.Projection.{FitsAtoms};
 ghost use Rattle.dcr_journal.specs.Run.{IsInRange};
 ghost use Rattle.dcr_line.specs.Line.{call_text, entry_text, mark_text, name_of};
-ghost use Rattle.dcr_line.specs.Fits.{FitsAtoms, FitsEntry};
+ghost use Rattle.dcr_line.specs.Fits.{FitsEntry};
 ghost use Rattle.dcr_line.specs.Grown.{StartsWith};
 
 use crate::put::{put, put_call, put_number, put_outcome, put_sets};

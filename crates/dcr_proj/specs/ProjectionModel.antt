@@ -38,5 +38,5 @@ pub record IsLocal (P : Local) : Type 0 where
   pub guards : (e : ℕ) → e < length P.own → GuardsFit (length P.own) P.own e (slice_index_or P.guards e None)
   pub effects : (e : ℕ) → e < length P.own → EffectsFit (length P.own) P.alphabet e (slice_index_or P.effects e None)
 
-abbrev pub FitsAtoms : Inside → Type 0
-FitsAtoms p = IsLocal (local_of p)
+abbrev pub FitsLocal : Inside → Type 0
+FitsLocal p = IsLocal (local_of p)

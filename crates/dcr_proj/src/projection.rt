@@ -29,11 +29,11 @@ impl Model for Projection {
 
     ghost Value = { Local };
 
-    ghost use Rattle.dcr_proj.specs.ProjectionModel.{local_of, FitsAtoms};
+    ghost use Rattle.dcr_proj.specs.ProjectionModel.{local_of, FitsLocal};
 
     ghost view = { local_of };
 
-    ghost invariant = { FitsAtoms };
+    ghost invariant = { FitsLocal };
 }
 
 impl Projection {

@@ -94,7 +94,7 @@ opened_told N C graph cover lines count e = at (opening_at (atom_names N) lines)
         record {
           opening = M;
           history = found.more;
-          room = record { executed = marks.fits.executed_room ∙ many; pending = marks.fits.pending_room ∙ many; included = marks.fits.included_room ∙ many };
+          room = record { executed = marks.fits.executed ∙ many; pending = marks.fits.pending ∙ many; included = marks.fits.included ∙ many };
           run = found.run;
           cut = marks.cut ∙ ap (λ ls. line_of (open_text (atom_names N) M) true ∷ ls) found.cut;
           counted = found.counted;
@@ -268,9 +268,9 @@ from_opening_read N C M J graph cover room run =
     let many : (flat_relation N).atoms ≡ length (atom_names N) = sym (length-of_atoms (parents_of N.nodes) (names_of N.nodes)) in
     let lines = lines_after (setting_of N C M) [] J in
     ap (opened (flat_relation N) (atom_names N) C lines) (opening_read (atom_names N) (atoms_named N graph) M lines (record {
-      executed_room = room.executed ∙ many;
-      pending_room = room.pending ∙ many;
-      included_room = room.included ∙ many;
+      executed = room.executed ∙ many;
+      pending = room.pending ∙ many;
+      included = room.included ∙ many;
     }))
     ∙ run_read (setting_of N C M) (fit_of N C M graph cover) [] J run
 

@@ -7,12 +7,11 @@ use Rattle.std.proofs.lemmas.Bool.Decides.{Decides-eqb}
 use Rattle.std.proofs.lemmas.List.Prefix.{front_rest}
 use Rattle.std.proofs.lemmas.Option.{cond_some, option_and_then_some, same_Some}
 use Rattle.std.proofs.lemmas.Slice.Eq.{starts_is}
-use Rattle.dcr_graph.specs.Projection.{as_marking}
+use Rattle.dcr_graph.specs.Projection.{as_marking, FitsAtoms}
 use Rattle.dcr_graph.specs.declared.marking.Marking.{Marking}
 use Rattle.dcr_graph.specs.declared.marking.SiteMark.{SiteMark}
 use Rattle.dcr_nest.specs.declared.node.Version.{Version}
 use Rattle.dcr_nest.specs.declared.node.Version.TheVariants.{V1, V2}
-use Rattle.dcr_line.specs.Fits.{FitsAtoms}
 use Rattle.dcr_line.specs.Known.{AreNames}
 use Rattle.dcr_line.specs.Line.{mark_text}
 use Rattle.dcr_line.specs.MarkLine.{mark_in}

@@ -1,11 +1,10 @@
 // The lines behind the entries.
 ghost use Rattle.std.specs.Prelude.{◌≡◌, ◌+◌, ◌++◌, ◌<◌, [], ◌∷◌, List, codes, decimal, length, drop, IfOk, slice_get, slice_index_or, false};
 ghost use Rattle.std.specs.Option.{ForSome, option_map_or};
-ghost use Rattle.dcr_line.specs.Fits.{FitsAtoms};
 ghost use Rattle.dcr_journal.specs.declared.call.Entry.{Entry};
 ghost use Rattle.dcr_graph.specs.Cause.{waits};
 ghost use Rattle.dcr_graph.specs.GraphValue.{rules_of};
-ghost use Rattle.dcr_graph.specs.Projection.{project};
+ghost use Rattle.dcr_graph.specs.Projection.{project, FitsAtoms};
 ghost use Rattle.dcr_graph.specs.Rows.{row};
 ghost use Rattle.dcr_report.specs.Report.{site_text, verdict_text};
 ghost use Rattle.dcr_replay.specs.Cut.{says};

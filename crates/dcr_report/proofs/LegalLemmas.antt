@@ -8,18 +8,19 @@ use Rattle.dcr_set.proofs.LeastLemmas.{least-some}
 use Rattle.dcr_set.proofs.SetLemmas.{length-those}
 use Rattle.dcr_graph.specs.Rules.{Rules}
 use Rattle.dcr_graph.specs.Rows.{row}
-use Rattle.dcr_graph.specs.Cause.{cause, waits, first_block, is_open_condition, is_pending_milestone}
-use Rattle.dcr_graph.specs.Projection.{project}
+use Rattle.dcr_graph.specs.Cause.{cause, waits, is_open_condition, is_pending_milestone}
+use Rattle.dcr_graph.specs.Projection.{project, FitsAtoms}
 use Rattle.dcr_graph.specs.declared.kind.Cause.{Cause}
 use Rattle.dcr_graph.specs.declared.kind.Cause.TheVariants as why
 use Rattle.dcr_graph.specs.declared.marking.Marking.{Marking}
+use Rattle.dcr_graph.proofs.CauseLemmas.{first_block}
 use Rattle.dcr_journal.specs.Answer.{answer, outcome_of, verdict_of}
 use Rattle.dcr_journal.specs.Run.{IsLegal, IsLegalAt}
 use Rattle.dcr_journal.specs.declared.call.Call.{Call}
 use Rattle.dcr_journal.specs.declared.call.Call.TheVariants.{Exec, Look, Enabled, Accepting}
 use Rattle.dcr_journal.specs.declared.call.Outcome.TheVariants.{Done, NotHere, Faulted}
 use Rattle.dcr_journal.specs.declared.call.Entry.{Entry}
-use Rattle.dcr_line.specs.Fits.{FitsAtoms, FitsEntry, FitsOutcome, answers_exec, answers_accepting, is_of_kind}
+use Rattle.dcr_line.specs.Fits.{FitsEntry, FitsOutcome, answers_exec, answers_accepting, is_of_kind}
 
 tells_exec : (o : Option Cause) → answers_exec (outcome_of o) ≡ true
 tells_exec None = refl
@@ -68,7 +69,7 @@ verdict_fits n (Some e) below = below e refl
 
 -- the marks of a site have a place for each atom
 pub marks_fit : (G : Rules) (S : Set) (M : Marking) → FitsAtoms G.atoms (project G S M).executed (project G S M).pending (project G S M).included
-marks_fit G S M = record { executed_room = length-those G.atoms _; pending_room = length-those G.atoms _; included_room = length-those G.atoms _ }
+marks_fit G S M = record { executed = length-those G.atoms _; pending = length-those G.atoms _; included = length-those G.atoms _ }
 
 -- what is waited for is an atom
 pub waits-below : (n : ℕ) (M : Marking) → IsBelow n (waits n M)

@@ -7,7 +7,7 @@ use Rattle.std.proofs.lemmas.List.Elements.{All-map}
 use Rattle.dcr_set.specs.EventSet.{Set}
 use Rattle.dcr_graph.specs.Cause.{waits}
 use Rattle.dcr_graph.specs.GraphValue.{Flat, rules_of}
-use Rattle.dcr_graph.specs.Projection.{project, HasRoom}
+use Rattle.dcr_graph.specs.Projection.{project, HasRoom, FitsAtoms}
 use Rattle.dcr_graph.specs.Rules.{Rules}
 use Rattle.dcr_graph.specs.declared.marking.Marking.{Marking}
 use Rattle.dcr_graph.specs.declared.marking.SiteMark.{SiteMark}
@@ -16,7 +16,6 @@ use Rattle.dcr_nest.specs.FlatRelation.{IsFlattening, flat_relation, of_atoms}
 use Rattle.dcr_proj.specs.CoverValue.{Owners, atoms_of, IsCover}
 use Rattle.dcr_journal.specs.Run.{IsLegal, after, marks_at}
 use Rattle.dcr_journal.specs.declared.closed.Closed.{Closed}
-use Rattle.dcr_line.specs.Fits.{FitsAtoms}
 use Rattle.dcr_report.specs.FitsClosed.{FitsClosed}
 use Rattle.dcr_report.specs.Report.{line, lines_text, head_lines, entry_lines, site_lines, end_lines, report_lines, report_text, told_text}
 use Rattle.dcr_report.proofs.LegalLemmas.{legal_entries, marks_fit, waits-below}
@@ -68,7 +67,7 @@ legal_fits graph C closed opening legal marks waited =
     let MarkFits : SiteMark → Type 0 = λ mark. FitsAtoms n mark.executed mark.pending mark.included in
     let each : All MarkFits (marks_at G C.owned last) = All-map MarkFits (λ (S : Set). project G S last) C.owned (λ k d within. marks_fit G _ last) in
     record {
-      opening = record { executed_room = opening.executed; pending_room = opening.pending; included_room = opening.included };
+      opening = record { executed = opening.executed; pending = opening.pending; included = opening.included };
       entries = legal_entries G C.owned closed.opening closed.history.entries legal;
       as_many_marks = ap length marks ∙ length-map C.owned (λ (S : Set). project G S last);
       marks = subst (All MarkFits) (sym marks) each;

@@ -2,9 +2,10 @@
 use Rattle.std.specs.Prelude.{◌≡◌, ℕ, ◌<◌, length}
 use Rattle.std.specs.Option.{ForSome}
 use Rattle.std.specs.List.{All}
+use Rattle.dcr_graph.specs.Projection.{FitsAtoms}
 use Rattle.dcr_graph.specs.declared.marking.SiteMark.{SiteMark}
 use Rattle.dcr_journal.specs.declared.closed.Closed.{Closed}
-use Rattle.dcr_line.specs.Fits.{FitsAtoms, FitsEntry}
+use Rattle.dcr_line.specs.Fits.{FitsEntry}
 
 -- the run is one over so many sites and atoms
 pub record FitsClosed (sites atoms : ℕ) (closed : Closed) : Type 0 where

@@ -2,10 +2,11 @@
 ghost use Rattle.std.specs.Prelude.{◌≡◌, ◌<◌, ◌≤◌, [], ◌∷◌, ◌++◌, codes, length, OnOk, IfErr};
 ghost use Rattle.std.specs.List.{All};
 ghost use Rattle.std.specs.Option.{ForSome};
+ghost use Rattle.dcr_graph.specs.Projection.{FitsAtoms};
 ghost use Rattle.dcr_graph.specs.declared.marking.SiteMark.{SiteMark};
 ghost use Rattle.dcr_proj.specs.CoverValue.{atoms_of};
 ghost use Rattle.dcr_line.specs.Line.{entry_text};
-ghost use Rattle.dcr_line.specs.Fits.{FitsAtoms, FitsEntry};
+ghost use Rattle.dcr_line.specs.Fits.{FitsEntry};
 ghost use Rattle.dcr_report.specs.Report.{line, lines_text, version_text, head_lines, entry_lines, site_text, site_lines, verdict_text, end_lines};
 ghost use Rattle.dcr_report.specs.FitsClosed.{FitsClosed};
 ghost use Rattle.dcr_report.specs.Passed.{Passes, StopsWithin};
@@ -104,7 +105,7 @@ pub(crate) fn pass_entries<O: Sink>(
 {
     for place in 0..history.len() {
         let entry = history.get(place).unwrap();
-        pass_entry(place, entry, graph, cover, held, sink)?;
+        pass_entry(place, &entry, graph, cover, held, sink)?;
     }
     Ok(())
 }

@@ -1,7 +1,7 @@
 // The lines behind the entries, each without its end.
 ghost use Rattle.std.specs.Prelude.{◌≡◌, ◌<◌, ◌++◌, codes, decimal, length, OnOk, OnErr};
 ghost use Rattle.std.specs.Option.{ForSome};
-ghost use Rattle.dcr_line.specs.Fits.{FitsAtoms};
+ghost use Rattle.dcr_graph.specs.Projection.{FitsAtoms};
 ghost use Rattle.dcr_line.specs.Grown.{StartsWith};
 ghost use Rattle.dcr_report.specs.Report.{site_text, verdict_text};
 

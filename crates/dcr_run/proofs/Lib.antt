@@ -1,3 +1,2 @@
 mod SitesLemmas
 mod SessionLemmas
-pub mod RunLemmas

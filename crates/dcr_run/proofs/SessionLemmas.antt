@@ -15,7 +15,7 @@ use Rattle.dcr_journal.specs.declared.call.Call.{Call}
 use Rattle.dcr_journal.specs.declared.call.Entry.{Entry}
 use Rattle.dcr_journal.proofs.RunLemmas.{after_next}
 use Rattle.dcr_site.specs.Seen.{Seen}
-use Rattle.dcr_run.specs.Engine.{AllStand}
+use Rattle.dcr_site.specs.Together.{AllStand}
 
 pub stand_next : (G : Rules) (C : List Set) (M : Marking) (J entries : List Entry) (entry : Entry) (sites : List Seen) → entries ≡ J ++ entry ∷ []
     → AllStand G C (stepped_by G (after G M J) entry.call entry.outcome) sites → AllStand G C (after G M entries) sites

@@ -1,23 +1,20 @@
--- Lists of sites: what stands at each place, one site more, one site changed; and the least atom that waits.
-use Rattle.std.proofs.Common.{◌≡◌, ◌≢◌, ◌⊎◌, ℕ, ◌+◌, ◌<◌, ◌≤◌, Bool, true, false, ◌&&◌, ◌||◌, eqb, List, [], ◌∷◌, ◌++◌, length, get_or, set, map, take, Option, Some, None, inl, inr, refl, sym, ap, subst, ◌∙◌, arith, length-set, get_or-set_same, get_or-set_other}
+-- Lists of sites that take in an execution, and what they tell together.
+use Rattle.std.proofs.Common.{◌≡◌, ℕ, ◌+◌, ◌<◌, ◌≤◌, Bool, true, false, ◌||◌, eqb, List, [], ◌∷◌, length, get_or, set, map, take, Some, inl, inr, refl, sym, ap, subst, ◌∙◌, arith, length-set}
 use Rattle.std.proofs.lemmas.Option.{slice_get_within, get_or_from_slice_get, slice_get-get_or}
 use Rattle.std.proofs.lemmas.Grind.{get_or_default_zero}
-use Rattle.std.proofs.lemmas.List.{length-take-le, get_or-take, take_all, get_or_append_left, length-append, ext_get_or, get_or-map, length-map}
-use Rattle.std.proofs.Math.Seq.{get_or-append_seam}
+use Rattle.std.proofs.lemmas.List.{length-take-le, get_or-take, take_all, ext_get_or, get_or-map, length-map}
 use Rattle.std.proofs.lemmas.List.Folds.{list_any_more, list_any_none, list_any_at, Any-from_list_any}
 use Rattle.std.proofs.lemmas.List.Kept.{AllPairs-from_increasing}
 use Rattle.std.specs.List.Sorted.{IsStrictlyIncreasing}
-use Rattle.std.proofs.lemmas.Bool.{cases_lt, cases_eq, eq-eqb, ne_eqb, eqb-true, false≢true, false_from_ne_true}
+use Rattle.std.proofs.lemmas.Bool.{eq-eqb, ne_eqb, eqb-true, false≢true, false_from_ne_true}
 use Rattle.dcr_graph.proofs.BoolLemmas.{or_true, or_false}
 use Rattle.std.specs.Prelude.{slice_get}
 use Rattle.std.specs.List.{All, list_any, Contains}
-use Rattle.dcr_set.specs.Least.{least}
 use Rattle.dcr_set.specs.EventSet.{Set, has}
-use Rattle.dcr_set.proofs.LeastLemmas.{least-none_from, least-ext}
+use Rattle.dcr_set.proofs.ListLemmas.{set_cases}
 use Rattle.dcr_graph.specs.Rules.{Rules}
 use Rattle.dcr_graph.specs.Rows.{row}
 use Rattle.dcr_graph.specs.Step.{step}
-use Rattle.dcr_graph.specs.Cause.{waits}
 use Rattle.dcr_graph.specs.Projection.{project}
 use Rattle.dcr_graph.specs.declared.marking.Marking.{Marking}
 use Rattle.dcr_journal.specs.Run.{marks_at}
@@ -25,63 +22,12 @@ use Rattle.dcr_proj.specs.CoverValue.{atoms_of}
 use Rattle.dcr_proj.specs.NetworkValue.{IsNetwork, participants_of}
 use Rattle.dcr_proj.proofs.NetworkLemmas.{hears, participant_hears, hears_participant, participants_ascend, participants_below}
 use Rattle.dcr_site.proofs.SiteLemmas.{unheard}
-use Rattle.dcr_site.specs.Seen.{Seen, StandsAt}
-use Rattle.dcr_site.specs.Decision.{owned_waits}
+use Rattle.dcr_site.specs.Seen.{Seen}
 use Rattle.dcr_run.specs.SitesModel.{alphabets_in}
-use Rattle.dcr_proj.specs.CoverValue.{IsCovered}
-use Rattle.dcr_laws.specs.AtSites.{lesser}
-use Rattle.dcr_laws.proofs.WaitsLemmas.{lesser-least}
-use Rattle.dcr_run.specs.Engine.{AllStand, IsOver, AreOver, AreOverMore, Heard, HeardEach, waits_in}
+use Rattle.dcr_site.specs.Together.{AllStand, IsOver, AreOver}
+use Rattle.dcr_run.specs.Engine.{AreOverMore, Heard, HeardEach}
 
--- ---- lists
-
-pub set_cases : {X : Type 0} (xs : List X) (i : ℕ) (y : X) (j : ℕ) (x : X) → i < length xs → slice_get (set xs i y) j ≡ Some x
-    → ((j ≡ i) × (x ≡ y)) ⊎ ((j ≢ i) × (slice_get xs j ≡ Some x))
-set_cases xs i y j x within is =
-    let room = length-set xs i y in let below = slice_get_within (set xs i y) j x is in
-    let value : get_or (set xs i y) j x ≡ x = get_or_from_slice_get (set xs i y) j x x is in
-    elim (cases_eq j i) [
-      | inl same ↦ inl (same, sym value ∙ ap (λ k. get_or (set xs i y) k x) same ∙ get_or-set_same xs i y x within)
-      | inr other ↦ inr (other, slice_get-get_or xs j x (omega arith) ∙ ap Some (sym (get_or-set_other xs i j y x other) ∙ value))
-    ]
-
-pub push_cases : {X : Type 0} (xs : List X) (y : X) (j : ℕ) (x : X) → slice_get (xs ++ y ∷ []) j ≡ Some x → ((j ≡ length xs) × (x ≡ y)) ⊎ (slice_get xs j ≡ Some x)
-push_cases xs y j x is =
-    let room = length-append xs (y ∷ []) in let below = slice_get_within (xs ++ y ∷ []) j x is in
-    let value : get_or (xs ++ y ∷ []) j x ≡ x = get_or_from_slice_get (xs ++ y ∷ []) j x x is in
-    elim (cases_lt j (length xs)) [
-      | inl before ↦ inr (slice_get-get_or xs j x before ∙ ap Some (sym (get_or_append_left xs (y ∷ []) x j before) ∙ value))
-      | inr past ↦ let same : j ≡ length xs = omega arith in inl (same, sym value ∙ ap (λ k. get_or (xs ++ y ∷ []) k x) same ∙ get_or-append_seam xs y [] x)
-    ]
-
--- ---- sites that stand together
-
--- the sites before i stand with their owned sets
-pub record StandBefore (G : Rules) (C : List Set) (M : Marking) (i : ℕ) (sites : List Seen) : Type 0 where
-  pub as_many : length sites ≡ i
-  pub each : (j : ℕ) (site : Seen) → slice_get sites j ≡ Some site → StandsAt G (row C j) M site
-
-pub stand_none : (G : Rules) (C : List Set) (M : Marking) → StandBefore G C M 0 []
-stand_none G C M = record { as_many = refl; each = λ j site is. absurd (let below : j < 0 = slice_get_within [] j site is in omega arith) }
-
-pub stand_more : (G : Rules) (C : List Set) (M : Marking) (i : ℕ) (sites : List Seen) (site : Seen) → StandBefore G C M i sites → StandsAt G (row C i) M site
-    → StandBefore G C M (i + 1) (sites ++ site ∷ [])
-stand_more G C M i sites site before here = record {
-  as_many = length-append sites (site ∷ []) ∙ ap (λ n. n + 1) before.as_many;
-  each = λ j found is. elim (push_cases sites site j found is) [
-    | inl at ↦ subst (StandsAt G (row C j) M) (sym at.1) (subst (λ k. StandsAt G (row C k) M site) (sym (at.0 ∙ before.as_many)) here)
-    | inr old ↦ before.each j found old
-  ];
-}
-
-pub over_none : (n : ℕ) → AreOver n []
-over_none n = λ j site is. absurd (let below : j < 0 = slice_get_within [] j site is in omega arith)
-
-pub over_more : (n : ℕ) (sites : List Seen) (site : Seen) → AreOver n sites → IsOver n site → AreOver n (sites ++ site ∷ [])
-over_more n sites site before here = λ j found is. elim (push_cases sites site j found is) [
-  | inl at ↦ subst (IsOver n) (sym at.1) here
-  | inr old ↦ before j found old
-]
+-- ---- sites that take in an execution
 
 -- whether a site is among those told
 abbrev pub is_among : List ℕ → ℕ → Bool
@@ -249,30 +195,3 @@ marks_are G C M (first ∷ sites) stand =
     get_or-map (λ (site : Seen). site.mark) (first ∷ sites) i first (project G [] M) below
     ∙ (stand.each i (get_or (first ∷ sites) i first) (slice_get-get_or (first ∷ sites) i first below)).mark
     ∙ sym (get_or-map (λ S. project G S M) C i [] (project G [] M) within))
-
-pub waits_none : (n : ℕ) (C : List Set) (M : Marking) → None ≡ least n (waits_in (take 0 C) M)
-waits_none n C M = sym (least-none_from n (waits_in (take 0 C) M) (λ j below. refl))
-
-pub waits_more : (G : Rules) (C : List Set) (M : Marking) (i : ℕ) (first own : Option ℕ) → i < length C → first ≡ least G.atoms (waits_in (take i C) M)
-    → own ≡ owned_waits G (row C i) M → lesser first own ≡ least G.atoms (waits_in (take (i + 1) C) M)
-waits_more G C M i first own within before here =
-    ap (λ o. lesser o own) before ∙ ap (lesser (least G.atoms (waits_in (take i C) M))) here
-    ∙ lesser-least G.atoms (waits_in (take i C) M) (λ a. has (row C i) a && (has M.included a && has M.pending a))
-    ∙ least-ext G.atoms _ _ (λ a below.
-    both (list_any (λ set. has set a) (take i C)) (has (row C i) a) (has M.included a && has M.pending a)
-    ∙ ap (λ t. t && (has M.included a && has M.pending a)) (sym (list_any_more (λ set. has set a) C i [] within)))
-  where
-    both : (x y z : Bool) → ((x && z) || (y && z)) ≡ ((x || y) && z)
-    both true true true = refl
-    both true true false = refl
-    both true false true = refl
-    both true false false = refl
-    both false y z = refl
-
--- all the sites
-pub waits_all : (G : Rules) (C : List Set) (M : Marking) (i : ℕ) (first : Option ℕ) → length C ≤ i → first ≡ least G.atoms (waits_in (take i C) M) → first ≡ least G.atoms (waits_in C M)
-waits_all G C M i first all is = is ∙ ap (λ D. least G.atoms (waits_in D M)) (take_all i C all)
-
--- where the owned sets cover all atoms, these are all that wait
-pub waits_covered : (G : Rules) (C : List Set) (M : Marking) → IsCovered G.atoms C → least G.atoms (waits_in C M) ≡ waits G.atoms M
-waits_covered G C M covers = least-ext G.atoms (waits_in C M) (λ a. has M.included a && has M.pending a) (λ a below. ap (λ t. t && (has M.included a && has M.pending a)) (covers a below))

@@ -3,7 +3,8 @@ use Rattle.std.specs.Prelude.{◌≡◌, List, map}
 use Rattle.dcr_set.specs.EventSet.{Set}
 use Rattle.dcr_proj.specs.CoverValue.{atoms_of}
 use Rattle.dcr_site.specs.Seen.{Seen}
-use Rattle.dcr_run.specs.Engine.{Engine, AreOver}
+use Rattle.dcr_site.specs.Together.{AreOver}
+use Rattle.dcr_run.specs.Engine.{Engine}
 use Rattle.dcr_run.specs.declared.sites.Sites.TheInside.{Inside}
 
 abbrev pub engine_of : Inside → Engine

@@ -2,8 +2,8 @@ ghost use Rattle.std.specs.Prelude.{◌≡◌, ◌≤◌, length, sum_by, IfOk};
 ghost use Rattle.std.specs.List.{All};
 ghost use Rattle.dcr_graph.specs.GraphValue.{rules_of};
 ghost use Rattle.dcr_graph.specs.Projection.{HasRoom};
-ghost use Rattle.dcr_journal.specs.Run.{IsInRange, IsLegal};
-ghost use Rattle.dcr_run.specs.RunOf.{IsRunOf, FitsRun};
+ghost use Rattle.dcr_journal.specs.Run.{HasNoFault, IsInRange, IsLegal};
+ghost use Rattle.dcr_run.specs.RunOf.{IsRunOf};
 
 use crate::session::run_sessions;
 use crate::sites::Sites;
@@ -15,7 +15,7 @@ use std::alloc::Global;
 
 /// Runs the sessions, one after the other, on the sites of the cover, which is one of the graph's atoms. The sites
 /// start at the opening marking and decide from their own marks. What comes back is the run of the graph
-/// (`IsRunOf`), which is legal, with its sizes. `NoMemory` where memory could not be had.
+/// (`IsRunOf`), which is legal, has no fault and at most 200,000 entries. `NoMemory` where memory could not be had.
 pub fn run_case(
     alloc: Global,
     graph: &Graph,
@@ -30,7 +30,8 @@ pub fn run_case(
     requires in_range { All (λ calls. All (IsInRange (length cover.now.owned) (length graph.now.names)) calls) sessions.now }
     ensures run { IfOk result (λ closed. IsRunOf (rules_of graph.now) cover.now.owned opening sessions.now closed) }
     ensures legal { IfOk result (λ closed. IsLegal (rules_of graph.now) cover.now.owned opening closed.history.entries) }
-    ensures fits { IfOk result (λ closed. FitsRun (length graph.now.names) (length cover.now.owned) closed) }
+    ensures no_fault { IfOk result (λ closed. HasNoFault closed.history.entries) }
+    ensures most_entries { IfOk result (λ closed. length closed.history.entries ≤ 200000) }
 {
     let mut sites = Sites::open(alloc, graph, cover, &opening)?;
     let history = run_sessions(alloc, &mut sites, sessions)?;

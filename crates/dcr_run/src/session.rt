@@ -5,7 +5,7 @@ ghost use Rattle.dcr_graph.specs.Rules.{Rules};
 ghost use Rattle.dcr_graph.specs.declared.marking.Marking.{Marking as Marks};
 ghost use Rattle.dcr_journal.specs.Run.{IsInRange, made_by, after, told_next, told};
 ghost use Rattle.dcr_proj.specs.CoverValue.{IsCovered};
-ghost use Rattle.dcr_run.specs.Engine.{AllStand};
+ghost use Rattle.dcr_site.specs.Together.{AllStand};
 
 use crate::sites::Sites;
 use dcr_journal::{Call, CallList, Entry, Journal, Outcome};

@@ -7,15 +7,15 @@ ghost use Rattle.dcr_graph.specs.declared.marking.Marking.{Marking as Marks};
 ghost use Rattle.dcr_graph.specs.GraphValue.{rules_of};
 ghost use Rattle.dcr_graph.specs.Projection.{HasRoom};
 ghost use Rattle.dcr_proj.specs.NetworkValue.{participants_of};
-ghost use Rattle.dcr_laws.specs.AtSites.{lesser as lesser_of};
 ghost use Rattle.dcr_run.specs.SitesModel.{alphabets_in};
-ghost use Rattle.dcr_run.specs.Engine.{AllStand, AreOver, AreOverMore, HeardEach, waits_in, told_by};
+ghost use Rattle.dcr_site.specs.Together.{AllStand, AreOver, waits_in};
+ghost use Rattle.dcr_run.specs.Engine.{AreOverMore, HeardEach};
 
 use dcr_graph::{Graph, Marking, SiteMark};
 use dcr_journal::{Call, MarkList, Outcome};
 use dcr_proj::{Cover, Network, project};
 use dcr_set::{EventId, EventSet, NoMemory, SiteId};
-use dcr_site::{Decision, Site};
+use dcr_site::Site;
 use std::alloc::Global;
 use std::marker::Model;
 
@@ -52,7 +52,7 @@ impl Sites {
     ghost use Rattle.dcr_journal.specs.Answer.{answer};
     ghost use Rattle.dcr_journal.specs.Run.{IsInRange, stepped_by, marks_at};
     ghost use Rattle.dcr_proj.specs.CoverValue.{IsCovered};
-    ghost use Rattle.dcr_run.specs.Engine.{AllStand};
+    ghost use Rattle.dcr_site.specs.Together.{AllStand};
 
     /// The sites of the cover, which is one of the graph's atoms, at the opening marking.
     pub fn open(
@@ -117,7 +117,7 @@ impl Sites {
         requires event { e < self.now.atoms }
         ensures { (G : Rules) (C : List Set) (M : Marks) → AllStand G C M self.now.sites → result ≡ answer G C M (Call.Exec site e) }
     {
-        outcome_of(self.members[usize::from(site.0)].decide(e))
+        Outcome::of_decision(self.members[usize::from(site.0)].decide(e))
     }
 
     // The marks of the site.
@@ -230,29 +230,7 @@ fn first_of_each(members: &[Site]) -> Option<EventId>
 {
     let mut first = None;
     for member in members {
-        first = lesser(first, member.first_waiting());
+        first = EventId::lesser(first, member.first_waiting());
     }
     first
-}
-
-// The lesser of two events, where there are two.
-fn lesser(one: Option<EventId>, other: Option<EventId>) -> Option<EventId>
-    ensures { result ≡ lesser_of one other }
-{
-    match (one, other) {
-        (Some(a), Some(b)) => Some(if b < a { b } else { a }),
-        (None, found) => found,
-        (found, None) => found,
-    }
-}
-
-// The outcome that tells a site's decision, where the event is executed if it is enabled.
-fn outcome_of(decision: Decision) -> Outcome
-    ensures { result ≡ told_by decision }
-{
-    match decision {
-        Decision::NotHere => Outcome::NotHere,
-        Decision::Enabled => Outcome::of_cause(None),
-        Decision::Blocked(cause) => Outcome::of_cause(Some(cause)),
-    }
 }

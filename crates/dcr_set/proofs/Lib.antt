@@ -4,3 +4,4 @@ pub mod SetLemmas
 pub mod StandsLemmas
 pub mod NumbersLemmas
 pub mod ToldLemmas
+pub mod ListLemmas

@@ -6,7 +6,7 @@ use Rattle.std.proofs.lemmas.List.{get_or-replicate, get_or_past, length-replica
 use Rattle.dcr_set.specs.Bits.{bit}
 use Rattle.dcr_set.specs.Least.{least}
 use Rattle.dcr_set.specs.EventSet.{has, those, no_event, with_event, without_event}
-use Rattle.dcr_set.specs.EventSetModel.{set_of, FitsRoom}
+use Rattle.dcr_set.specs.EventSetModel.{set_of_words, FitsRoom}
 use Rattle.dcr_set.specs.declared.set.EventSet.TheInside.{Inside}
 use Rattle.dcr_set.proofs.BitLemmas.{bit_digit, digit, digit-zero}
 use Rattle.dcr_set.proofs.LeastLemmas.{least-ext, least-room}
@@ -23,7 +23,7 @@ pub has-those_all : (n : ℕ) (p : ℕ → Bool) → ((k : ℕ) → n ≤ k → 
 has-those_all n p past k = elim (cases_lt k n) [ inl below ↦ has-those n p k below | inr from ↦ has_past-those n p k from ∙ sym (past k from) ]
 
 -- what the model's view and invariant say together
-pub stands : (x : Inside) (s : List Bool) → FitsRoom x → set_of x ≡ s → Stands x.words x.room s
+pub stands : (x : Inside) (s : List Bool) → FitsRoom x → set_of_words x ≡ s → Stands x.words x.room s
 stands x s fits view = record {
   room_is = ap length (sym view) ∙ length-those x.room (bit x.words);
   most = fits.most;

@@ -5,8 +5,8 @@ use Rattle.dcr_set.specs.EventSet.{those}
 use Rattle.dcr_set.specs.declared.set.EventSet.TheInside.{Inside}
 
 -- the set of the bits below the room
-abbrev pub set_of : Inside → List Bool
-set_of s = those s.room (bit s.words)
+abbrev pub set_of_words : Inside → List Bool
+set_of_words s = those s.room (bit s.words)
 
 -- the room is one that the words have, and no bit is set from it on
 pub record FitsRoom (s : Inside) : Type 0 where

@@ -48,6 +48,22 @@ impl Model for EventId {
     ghost inverse = { λ n. record { 0 = n } };
 }
 
+impl EventId {
+    ghost use Rattle.std.specs.Prelude.{◌≡◌};
+    ghost use Rattle.dcr_set.specs.Least.{lesser as lesser_of};
+
+    /// The lesser of two events, where either may be missing.
+    pub fn lesser(one: Option<EventId>, other: Option<EventId>) -> Option<EventId>
+        ensures { result ≡ lesser_of one other }
+    {
+        match (one, other) {
+            (Some(a), Some(b)) => Some(if b < a { b } else { a }),
+            (None, found) => found,
+            (found, None) => found,
+        }
+    }
+}
+
 /// A site by its number, from 0 in the order of the cover. Contracts see the number.
 #[derive(Clone, Copy, Debug, PartialEq, Eq, PartialOrd, Ord, Hash)]
 pub struct SiteId(pub u16);

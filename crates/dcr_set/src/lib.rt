@@ -9,5 +9,5 @@ mod words;
 
 pub use id::{EventId, MAX_ATOMS, NoMemory, SiteId};
 pub use iter::EventIter;
-pub use laws::set_is_its_numbers;
+pub use laws::{least_is_the_least_that_passes, set_is_its_numbers};
 pub use set::EventSet;

@@ -20,9 +20,9 @@ impl Model for EventSet {
 
     ghost Value = { List Bool };
 
-    ghost use Rattle.dcr_set.specs.EventSetModel.{set_of, FitsRoom};
+    ghost use Rattle.dcr_set.specs.EventSetModel.{set_of_words, FitsRoom};
 
-    ghost view = { set_of };
+    ghost view = { set_of_words };
 
     ghost invariant = { FitsRoom };
 }

@@ -1,1 +1,2 @@
 pub mod SiteLemmas
+pub mod TogetherLemmas

@@ -7,7 +7,7 @@ use Rattle.dcr_set.proofs.LeastLemmas.{least-ext}
 use Rattle.dcr_set.proofs.SetLemmas.{has-those, length-those, those-ext, those-has}
 use Rattle.dcr_set.proofs.ToldLemmas.{union-those, union_set-those, difference-those, intersection_set-those}
 use Rattle.dcr_graph.specs.Rules.{Rules}
-use Rattle.dcr_graph.specs.Cause.{cause, first_block, is_open_condition, is_pending_milestone}
+use Rattle.dcr_graph.specs.Cause.{cause, is_open_condition, is_pending_milestone}
 use Rattle.dcr_graph.specs.Step.{step}
 use Rattle.dcr_graph.specs.Projection.{tracks_included, tracks_executed, tracks_pending, in_alphabet, local_rules, project, as_marking, local_step, HasRoom}
 use Rattle.dcr_graph.specs.declared.kind.Kind.TheVariants as kind
@@ -17,6 +17,7 @@ use Rattle.dcr_graph.specs.declared.marking.Marking.{Marking}
 use Rattle.dcr_graph.specs.declared.marking.SiteMark.{SiteMark}
 use Rattle.dcr_graph.proofs.BoolLemmas.{and_true, left_out}
 use Rattle.dcr_graph.proofs.LocalLaws.{local_cause, local_step_is, outside_step, same_marks}
+use Rattle.dcr_graph.proofs.CauseLemmas.{first_block}
 use Rattle.dcr_proj.specs.Rows.{guards_of, effects_of}
 use Rattle.dcr_proj.specs.Local.{Local, projection_of, cut_to}
 use Rattle.dcr_site.specs.Decision.{by_cause, decision, owned_waits}

@@ -2,3 +2,4 @@ pub mod Seen
 pub mod SiteModel
 pub mod Decision
 pub mod MarksAfter
+pub mod Together

@@ -33,5 +33,5 @@ returns-in-Ok-clause-ends g c =
       most_sessions = c.requires.most_sessions;
     } in
     let text = report_text case.nested case.cover closed.opening closed.history.entries in
-    ends_so (IsRunDue text closed) (IsOwed (Ok (case_of case))) (λ due is. (closed, run_of_whole (case_of case) closed accepted run legal c.in-Ok.ensures.fits.most_entries, is))
+    ends_so (IsRunDue text closed) (IsOwed (Ok (case_of case))) (λ due is. (closed, run_of_whole (case_of case) closed accepted run legal c.in-Ok.ensures.most_entries, is))
     (g.O.Sink.taken c.args.output.now) (g.O.Sink.taken c.report.new.output) c.report.result c.report.ensures.ends

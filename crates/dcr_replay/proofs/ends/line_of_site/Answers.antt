@@ -4,10 +4,9 @@ use Rattle.std.proofs.lemmas.Result.{IfOk-weaker}
 use Rattle.dcr_set.specs.EventSet.{intersection}
 use Rattle.dcr_graph.specs.GraphValue.{rules_of}
 use Rattle.dcr_graph.specs.Rows.{row}
-use Rattle.dcr_graph.specs.Projection.{HasRoom, project}
+use Rattle.dcr_graph.specs.Projection.{HasRoom, project, FitsAtoms}
 use Rattle.dcr_graph.specs.declared.marking.Marking.{Marking}
 use Rattle.dcr_graph.specs.declared.marking.SiteMark.{SiteMark}
-use Rattle.dcr_line.specs.Fits.{FitsAtoms}
 use Rattle.dcr_report.specs.Report.{site_text}
 use Rattle.dcr_report.proofs.LegalLemmas.{marks_fit}
 use Rattle.dcr_replay.specs.Tracks.{tracked_of}

@@ -1,9 +1,9 @@
-use Rattle.std.proofs.Common.{◌≤◌, length, refl, arith}
+use Rattle.std.proofs.Common.{◌≤◌, length, refl, sym, subst, arith}
 use Rattle.dcr_graph.specs.GraphValue.{rules_of}
-use Rattle.dcr_journal.specs.Run.{after}
+use Rattle.dcr_journal.specs.Run.{IsSound, after}
 use Rattle.dcr_journal.specs.declared.closed.Closed.{Closed}
+use Rattle.dcr_laws.proofs.ToldLemmas.{told_is_sound}
 use Rattle.dcr_run.specs.RunOf.{IsRunOf}
-use Rattle.dcr_run.proofs.RunLemmas.{run_is_legal, run_fits}
 use Rattle.dcr_run.proofs.run.run_case.Goals as goal
 
 pub returns : goal.returns
@@ -23,8 +23,10 @@ returns c =
       history = c.in_ok-history.ensures.told G C M covered stand;
       marks = c.in_ok-marks.ensures G C (after G M history.entries) at_end;
       waits = c.first_waiting-waits.ensures G C (after G M history.entries) covered at_end;
-    } in record {
+    } in
+    let sound : IsSound G C M history.entries = subst (IsSound G C M) (sym run.history) (told_is_sound G C M sessions c.requires.in_range) in record {
       run = run;
-      legal = run_is_legal G C M sessions closed c.requires.in_range run;
-      fits = run_fits G C M sessions closed c.requires.opening most run;
+      legal = sound.legal;
+      no_fault = sound.no_fault;
+      most_entries = most;
     }

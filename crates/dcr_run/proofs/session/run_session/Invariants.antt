@@ -6,7 +6,7 @@ use Rattle.dcr_graph.specs.declared.marking.Marking.{Marking}
 use Rattle.dcr_journal.specs.Run.{after, made_by}
 use Rattle.dcr_journal.specs.declared.call.Entry.{Entry}
 use Rattle.dcr_proj.specs.CoverValue.{IsCovered}
-use Rattle.dcr_run.specs.Engine.{AllStand}
+use Rattle.dcr_site.specs.Together.{AllStand}
 use Rattle.dcr_run.proofs.SessionLemmas.{told_so_far}
 use Rattle.dcr_run.proofs.session.run_session.Given as goal
 

@@ -8,7 +8,7 @@ use Rattle.dcr_journal.specs.Run.{after, numbered, told_next}
 use Rattle.dcr_journal.specs.declared.call.Call.{Call}
 use Rattle.dcr_journal.specs.declared.call.Entry.{Entry}
 use Rattle.dcr_proj.specs.CoverValue.{IsCovered}
-use Rattle.dcr_run.specs.Engine.{AllStand}
+use Rattle.dcr_site.specs.Together.{AllStand}
 use Rattle.dcr_run.proofs.session.run_sessions.Given as goal
 
 abbrev pub invariant-loop-number : goal.invariant-loop-number

@@ -4,7 +4,7 @@ use Rattle.std.proofs.lemmas.Option.{slice_get_read}
 use Rattle.std.proofs.Common.{refl}
 use Rattle.dcr_graph.specs.Rows.{row}
 use Rattle.dcr_site.specs.Seen.{StandsAt}
-use Rattle.dcr_run.proofs.SitesLemmas.{waits_none, waits_more, waits_all}
+use Rattle.dcr_site.proofs.TogetherLemmas.{waits_none, waits_more, waits_all}
 use Rattle.dcr_run.proofs.sites.first_of_each.Goals as goal
 
 pub loop-member-init : goal.loop-member-init

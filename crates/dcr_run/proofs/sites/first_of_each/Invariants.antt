@@ -3,7 +3,7 @@ use Rattle.dcr_set.specs.Least.{least}
 use Rattle.dcr_set.specs.EventSet.{Set}
 use Rattle.dcr_graph.specs.Rules.{Rules}
 use Rattle.dcr_graph.specs.declared.marking.Marking.{Marking}
-use Rattle.dcr_run.specs.Engine.{AllStand, waits_in}
+use Rattle.dcr_site.specs.Together.{AllStand, waits_in}
 use Rattle.dcr_run.proofs.sites.first_of_each.Given as goal
 
 abbrev pub invariant-loop-member : goal.invariant-loop-member

@@ -6,9 +6,9 @@ use Rattle.dcr_graph.specs.GraphValue.{rules_of}
 use Rattle.dcr_graph.specs.Rows.{row}
 use Rattle.dcr_proj.specs.Local.{projection_of}
 use Rattle.dcr_site.specs.Seen.{Seen, StandsAt}
-use Rattle.dcr_run.specs.Engine.{AreOver, IsOver}
+use Rattle.dcr_site.specs.Together.{AreOver, IsOver}
 use Rattle.dcr_run.specs.SitesModel.{alphabets_in}
-use Rattle.dcr_run.proofs.SitesLemmas.{StandBefore, stand_more, over_more}
+use Rattle.dcr_site.proofs.TogetherLemmas.{StandBefore, stand_more, over_more}
 use Rattle.dcr_run.proofs.sites.open_each.Goals as goal
 
 pub loop-own-preserved : goal.loop-own-preserved

@@ -1,8 +1,8 @@
 use Rattle.std.proofs.Common.{◌≡◌, length}
 use Rattle.dcr_graph.specs.GraphValue.{rules_of}
-use Rattle.dcr_run.specs.Engine.{AreOver}
+use Rattle.dcr_site.specs.Together.{AreOver}
 use Rattle.dcr_run.specs.SitesModel.{alphabets_in}
-use Rattle.dcr_run.proofs.SitesLemmas.{StandBefore}
+use Rattle.dcr_site.proofs.TogetherLemmas.{StandBefore}
 use Rattle.dcr_run.proofs.sites.open_each.Given as goal
 
 abbrev pub invariant-loop-own : goal.invariant-loop-own

@@ -2,7 +2,7 @@ use Rattle.std.proofs.Common.{◌≡◌, ◌<◌, length, sym, ap, subst, ◌∙
 use Rattle.std.specs.Vec.{with_items}
 use Rattle.std.proofs.lemmas.List.{with_items_is}
 use Rattle.dcr_proj.specs.CoverValue.{atoms_of}
-use Rattle.dcr_run.specs.Engine.{AreOver}
+use Rattle.dcr_site.specs.Together.{AreOver}
 use Rattle.dcr_run.specs.SitesModel.{alphabets_in}
 use Rattle.dcr_run.proofs.SitesLemmas.{heard_over, heard_alphabets}
 use Rattle.dcr_run.proofs.sites.Sites.apply.Goals as goal

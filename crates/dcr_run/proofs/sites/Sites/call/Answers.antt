@@ -1,6 +1,6 @@
 use Rattle.std.proofs.Common.{sym, subst}
 use Rattle.dcr_journal.specs.Run.{stepped_by}
-use Rattle.dcr_run.specs.Engine.{AllStand}
+use Rattle.dcr_site.specs.Together.{AllStand}
 use Rattle.dcr_run.proofs.sites.Sites.call.Goals as goal
 
 pub returns-in-Exec-clause-stepped : goal.returns-in-Exec-clause-stepped

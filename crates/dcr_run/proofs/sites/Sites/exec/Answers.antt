@@ -1,7 +1,7 @@
 use Rattle.std.proofs.Common.{sym, subst}
 use Rattle.dcr_journal.specs.Run.{stepped_by}
 use Rattle.dcr_journal.specs.declared.call.Call.TheVariants.{Exec}
-use Rattle.dcr_run.specs.Engine.{AllStand}
+use Rattle.dcr_site.specs.Together.{AllStand}
 use Rattle.dcr_run.proofs.sites.Sites.exec.Goals as goal
 
 pub returns-in-Done-clause-stepped : goal.returns-in-Done-clause-stepped

@@ -1,6 +1,6 @@
 use Rattle.std.proofs.Common.{sym, ap, subst, ◌∙◌}
-use Rattle.dcr_run.specs.Engine.{AllStand}
-use Rattle.dcr_run.proofs.SitesLemmas.{waits_covered}
+use Rattle.dcr_site.specs.Together.{AllStand}
+use Rattle.dcr_site.proofs.TogetherLemmas.{waits_covered}
 use Rattle.dcr_run.proofs.sites.Sites.first_waiting.Goals as goal
 
 pub returns : goal.returns

@@ -2,7 +2,7 @@ use Rattle.std.proofs.Common.{◌≡◌, ◌<◌, [], length, sym, ap, subst, �
 use Rattle.std.specs.Prelude.{slice_index_or}
 use Rattle.dcr_proj.specs.CoverValue.{atoms_of}
 use Rattle.dcr_proj.specs.NetworkValue.{IsNetwork}
-use Rattle.dcr_run.specs.Engine.{AreOver}
+use Rattle.dcr_site.specs.Together.{AreOver}
 use Rattle.dcr_run.specs.SitesModel.{alphabets_in}
 use Rattle.dcr_run.proofs.SitesLemmas.{network_of}
 use Rattle.dcr_run.proofs.sites.Sites.open.Goals as goal

@@ -1,7 +1,7 @@
 use Rattle.std.proofs.Common.{◌≡◌, true, cond, Some, None, ap, sym, subst, ◌∙◌}
 use Rattle.dcr_set.specs.EventSet.{has, first_in_both_without, first_in_three}
 use Rattle.dcr_graph.specs.Rules.{Rules}
-use Rattle.dcr_graph.specs.Cause.{first_block}
+use Rattle.dcr_graph.proofs.CauseLemmas.{first_block}
 use Rattle.dcr_graph.specs.declared.kind.Cause.TheVariants.{Excluded}
 use Rattle.dcr_graph.specs.declared.marking.Marking.{Marking}
 use Rattle.dcr_site.specs.Seen.{StandsAt}

@@ -4,7 +4,7 @@ use Rattle.std.proofs.lemmas.Option.{slice_get_past, slice_get_read}
 use Rattle.std.specs.Borrow.{Bor}
 use Rattle.dcr_journal.specs.declared.call.Entry.{Entry}
 use Rattle.dcr_journal.proofs.HistoryLemmas.{slice_get-history}
-use Rattle.dcr_journal.proofs.journal.Journal.get.Goals as goal
+use Rattle.dcr_journal.proofs.journal.Journal.kept.Goals as goal
 
 pub returns-in_err-block : goal.returns-in_err-block
 returns-in_err-block c =
