@@ -3,3 +3,4 @@ pub mod GraphLemmas
 pub mod BoolLemmas
 pub mod LocalLaws
 pub mod NamesLemmas
+pub mod IndexLemmas

@@ -8,3 +8,4 @@ pub mod Rows
 pub mod TableModel
 pub mod GraphValue
 pub mod GraphModel
+pub mod IndexModel

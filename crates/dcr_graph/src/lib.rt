@@ -2,6 +2,7 @@
 #![tactic(auto)]
 
 mod graph;
+mod index;
 mod kind;
 mod label;
 mod marking;
@@ -9,6 +10,7 @@ mod name;
 mod table;
 
 pub use graph::{Graph, GraphStop};
+pub use index::NameIndex;
 pub use kind::{Cause, Kind};
 pub use label::{Label, LabelStop};
 pub use marking::{Marking, SiteMark};
