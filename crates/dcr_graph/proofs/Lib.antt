@@ -4,3 +4,4 @@ pub mod BoolLemmas
 pub mod LocalLaws
 pub mod NamesLemmas
 pub mod CauseLemmas
+pub mod IndexLemmas

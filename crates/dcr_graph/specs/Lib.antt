@@ -9,3 +9,4 @@ pub mod TableModel
 pub mod GraphValue
 pub mod GraphModel
 pub mod Laws
+pub mod IndexModel

@@ -2,6 +2,7 @@
 #![tactic(auto)]
 
 mod graph;
+mod index;
 mod kind;
 mod label;
 mod laws;
@@ -10,6 +11,7 @@ mod name;
 mod table;
 
 pub use graph::{Graph, GraphStop};
+pub use index::NameIndex;
 pub use kind::{Cause, Kind};
 pub use label::{Label, LabelStop};
 pub use laws::{the_cause_is_the_first_that_blocks, the_least_that_waits_is_told};

@@ -1,15 +1,19 @@
 -- Steps of the loops over the events.
-use Rattle.std.proofs.Common.{◌≡◌, ℕ, Bor, ◌+◌, Bool, true, false, cond, ◌||◌, List, [], ◌∷◌, ◌++◌, drop, take, Some, Ok, Err, bytes_eq, refl, sym, ap, ◌∙◌}
+use Rattle.std.proofs.Common.{◌≡◌, ℕ, suc, Bor, ◌+◌, ◌≤◌, Bool, true, false, cond, not, nat_lt, is_some, length, map, None, arith, ◌||◌, List, [], ◌∷◌, ◌++◌, drop, take, Some, Ok, Err, bytes_eq, refl, sym, ap, ◌∙◌}
 use Rattle.std.specs.List.{list_any, slice_get}
 use Rattle.std.proofs.lemmas.List.{take_more, drop_more}
 use Rattle.std.proofs.lemmas.List.Folds.{list_any-append}
 use Rattle.std.proofs.lemmas.Option.{get_or_from_slice_get, slice_get_within}
-use Rattle.std.proofs.lemmas.Slice.Eq.{bytes_eq-Decides}
-use Rattle.indexmap.specs.IndexSet.{insert_key}
+use Rattle.std.specs.List.{position_or_len}
+use Rattle.std.proofs.lemmas.Bool.{le-leb, lt-ltb, le-ltb, ltb-true, ltb-false}
+use Rattle.std.proofs.lemmas.List.Sums.{count_by-le-length}
+use Rattle.dcr_graph.specs.Names.{number_of}
+use Rattle.dcr_graph.proofs.NamesLemmas.{place_is}
+use Rattle.dcr_shape.specs.declared.stop.LimitKind.TheVariants as kind
 use Rattle.dcr_shape.specs.Parts.{Event}
 use Rattle.dcr_shape.specs.Stages.{after}
 use Rattle.dcr_shape.specs.declared.stop.ReadStop.{ReadStop}
-use Rattle.dcr_limit.specs.Limits.{label_in, labels_in}
+use Rattle.dcr_limit.specs.Limits.{label_in, labels_in, within, atoms_in, names_parent}
 
 -- ---- labels
 
@@ -43,19 +47,35 @@ any_more p xs i x is =
     let longer : take (i + 1) xs ≡ take i xs ++ x ∷ [] = take_more xs i x l ∙ ap (λ y. take i xs ++ y ∷ []) (get_or_from_slice_get xs i x x is) in
     ap (list_any p) longer ∙ list_any-append p (take i xs) (x ∷ []) ∙ or_last (list_any p (take i xs)) (p x)
 
--- a text that is inserted is in the set, and the others stay
-pub inserted_seen : (name : List ℕ) (ks : List (Bor (List ℕ))) (k : Bor (List ℕ))
-    → list_any (λ (key : Bor (List ℕ)). bytes_eq name key.now) (insert_key (λ (a b : Bor (List ℕ)). bytes_eq a.now b.now) ks k) ≡ (list_any (λ (key : Bor (List ℕ)). bytes_eq name key.now) ks || bytes_eq name k.now)
-inserted_seen name ks k = at (list_any (λ (key : Bor (List ℕ)). bytes_eq k.now key.now) ks) refl (bytes_eq name k.now) refl
+-- one element behind
+pub any_push : {A : Type 0} (p : A → Bool) (xs : List A) (x : A) → list_any p (xs ++ x ∷ []) ≡ (list_any p xs || p x)
+any_push p xs x = list_any-append p xs (x ∷ []) ∙ or_last (list_any p xs) (p x)
+
+-- the first that passes is within exactly where one passes
+first_within : {A : Type 0} (p : A → Bool) (xs : List A) → nat_lt (position_or_len p xs) (length xs) ≡ list_any p xs
+first_within p [] = refl
+first_within p (x ∷ xs) = at (first_within p xs) (p x) refl
   where
-    there : Bool
-    there = list_any (λ (key : Bor (List ℕ)). bytes_eq name key.now) ks
+    later : (b : Bool) → nat_lt (position_or_len p xs) (length xs) ≡ b → nat_lt (1 + position_or_len p xs) (suc (length xs)) ≡ b
+    later true e = lt-ltb _ _ (let l = ltb-true _ _ e in omega arith)
+    later false e = le-ltb _ _ (let l = ltb-false _ _ e in omega arith)
 
-    kept : (b : Bool) → bytes_eq name k.now ≡ b → list_any (λ (key : Bor (List ℕ)). bytes_eq k.now key.now) ks ≡ true → there ≡ (there || b)
-    kept true same has = let is : name ≡ k.now = (bytes_eq-Decides name k.now).0 same in let found : there ≡ true = ap (λ (text : List ℕ). list_any (λ (key : Bor (List ℕ)). bytes_eq text key.now) ks) is ∙ has in rw found refl
-    kept false same has = sym (or_false there)
+    at : nat_lt (position_or_len p xs) (length xs) ≡ list_any p xs → (b : Bool) → p x ≡ b → nat_lt (position_or_len p (x ∷ xs)) (length (x ∷ xs)) ≡ (p x || list_any p xs)
+    at rest true e = rw e (lt-ltb 0 (suc (length xs)) (omega arith))
+    at rest false e = rw e (later (list_any p xs) rest)
 
-    at : (has : Bool) → list_any (λ (key : Bor (List ℕ)). bytes_eq k.now key.now) ks ≡ has → (b : Bool) → bytes_eq name k.now ≡ b
-        → list_any (λ (key : Bor (List ℕ)). bytes_eq name key.now) (cond has ks (ks ++ k ∷ [])) ≡ (there || b)
-    at true e b same = kept b same e
-    at false e b same = list_any-append (λ (key : Bor (List ℕ)). bytes_eq name key.now) ks (k ∷ []) ∙ (or_last there (bytes_eq name k.now) ∙ ap (λ c. there || c) same)
+is_some_where : {A : Type 0} (b : Bool) (a : A) → is_some (cond b (Some a) None) ≡ b
+is_some_where true a = refl
+is_some_where false a = refl
+
+-- what is among the texts has a number there
+pub numbered : (texts : List (Bor (List ℕ))) (name : List ℕ) → is_some (number_of (map (λ (text : Bor (List ℕ)). text.now) texts) name) ≡ list_any (λ (text : Bor (List ℕ)). bytes_eq name text.now) texts
+numbered texts name =
+    let is = λ (text : Bor (List ℕ)). bytes_eq name text.now in
+    ap is_some (sym (place_is (λ (text : Bor (List ℕ)). text.now) texts name)) ∙ (is_some_where (nat_lt (position_or_len is texts) (length texts)) (position_or_len is texts) ∙ first_within is texts)
+
+-- no more events are atoms than there are
+pub atoms_few : (events : List Event) → length events ≤ 1024 → within kind.Atoms 0 1024 (atoms_in events) ≡ Ok tt
+atoms_few events few =
+    let most : atoms_in events ≤ length events = count_by-le-length (λ (event : Event). not (list_any (names_parent event.name) events)) events in
+    rw (le-leb 0 (atoms_in events) (omega arith), le-leb (atoms_in events) 1024 (omega arith)) refl

@@ -1,8 +1,8 @@
-ghost use Rattle.std.specs.Prelude.{◌≡◌, ◌<◌, ◌^◌, length, option_map, IfSome};
+ghost use Rattle.std.specs.Prelude.{◌≡◌, ◌<◌, ◌≤◌, ◌^◌, length, option_map, IfSome};
 ghost use Rattle.dcr_shape.specs.Says.{Says};
 ghost use Rattle.dcr_limit.specs.Limits.{label_in, labels_in, limits_in, within};
 
-use crate::atoms::count_atoms;
+use crate::atoms::try_atoms;
 use dcr_shape::{LimitKind, ReadStop, Written, WrittenEvents};
 use std::alloc::Global;
 
@@ -28,15 +28,18 @@ pub const MAX_SESSIONS: usize = 1024;
 pub const MAX_CALLS: usize = 200_000;
 
 /// Whether what is written keeps the limits: `Limit` exactly where the definition refuses it so, with the count
-/// that was found; `NoMemory` may come in the place of any answer. It builds no more than a set of 2,048 texts.
+/// that was found. Memory is taken only to count the atoms of more than 1,024 nodes, so `NoMemory` comes neither
+/// where there are at most so many nodes nor where there are more than 2,048; else it may come in the place of any
+/// answer. It builds no more than an index of 2,048 texts.
 #[tactic(auto, unfolding(crate::specs::Limits::limits_in))]
 pub fn try_limits(alloc: Global, written: &Written<'_>) -> Result<(), ReadStop>
-    ensures { Says (λ done. done) result (limits_in written.now) }
+    ensures says { Says (λ done. done) result (limits_in written.now) }
+    ensures few_nodes { length written.now.events ≤ 1024 → result ≡ limits_in written.now }
+    ensures too_many_nodes { 2048 < length written.now.events → result ≡ limits_in written.now }
 {
     let events = &written.events;
     try_count(LimitKind::Nodes, 0, MAX_NODES, events.len())?;
-    let atoms = count_atoms(alloc, events)?;
-    try_count(LimitKind::Atoms, 0, MAX_ATOMS, atoms)?;
+    try_atoms(alloc, events)?;
     let relations = written.relations.len();
     try_count(LimitKind::Relations, 0, MAX_RELATIONS, relations)?;
     try_labels(events)?;
@@ -48,7 +51,12 @@ pub fn try_limits(alloc: Global, written: &Written<'_>) -> Result<(), ReadStop>
 }
 
 // Whether the count is within its bounds.
-fn try_count(kind: LimitKind, least: usize, most: usize, count: usize) -> Result<(), ReadStop>
+pub(crate) fn try_count(
+    kind: LimitKind,
+    least: usize,
+    most: usize,
+    count: usize,
+) -> Result<(), ReadStop>
     requires { count < 2 ^ 32 }
     ensures { result ≡ within kind least most count }
 {
