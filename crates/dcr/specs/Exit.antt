@@ -15,7 +15,7 @@ IsUntouched left rest had took = (rest ≡ left) × Appends had took []
 -- The code is that of the status of an end that answers just these words, of just this input and output; or memory ran out
 -- while the words were gathered, before anything was read or written. `left` and `rest` are what the input had left and has
 -- left, `had` and `took` what the output had taken and has taken, where they tell that.
-pub record Exits (words : List (String Global)) (left rest had took : Option (List ℕ)) (has_ended : Type 0) (code : ℕ) : Type 0 where
+pub record Exits (words : List (String Global)) (left rest had took : Option (List ℕ)) (has_ended : Type 0) (exit : ℕ) : Type 0 where
   pub end : End
-  pub code : code ≡ code_of end.status
+  pub code : exit ≡ code_of end.status
   pub answers : Answers (command_in words) left has_ended had took end ⊎ ((end.status ≡ NoMemory) × IsUntouched left rest had took)

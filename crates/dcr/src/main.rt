@@ -12,6 +12,7 @@ ghost use Rattle.dcr.specs.Exit.{Exits, IsUntouched};
 use dcr_app::{Status, dcr};
 use dcr_base::{Sink, Source, StdSink, StdSource};
 use std::alloc::Global;
+use std::io::ErrorKind;
 use std::process::ExitCode;
 use std::{env, io};
 
@@ -33,10 +34,10 @@ fn program<R, I: Source, O: Sink>(
 ) -> ExitCode
     ensures words { IfOk words (λ args. Exits (drop 1 (into_iter_items args)) (I.left input.old) (I.left input.new)
         (O.taken output.old) (O.taken output.new) (IsAtEnd (I.left input.new)) (exit_status result)) }
-    ensures no_text { IfErr words (λ error. error_kind error ≡ io::ErrorKind.InvalidData → Exits [] (I.left input.old) (I.left input.new)
+    ensures no_text { IfErr words (λ error. error_kind error ≡ ErrorKind.InvalidData → Exits [] (I.left input.old) (I.left input.new)
         (O.taken output.old) (O.taken output.new) (IsAtEnd (I.left input.new)) (exit_status result)) }
-    ensures no_words { IfErr words (λ error. error_kind error ≢ io::ErrorKind.InvalidData → exit_status result ≡ code_of Status.NoMemory) }
-    ensures unread { IfErr words (λ error. error_kind error ≢ io::ErrorKind.InvalidData → IsUntouched (I.left input.old) (I.left input.new)
+    ensures no_words { IfErr words (λ error. error_kind error ≢ ErrorKind.InvalidData → exit_status result ≡ code_of Status.NoMemory) }
+    ensures unread { IfErr words (λ error. error_kind error ≢ ErrorKind.InvalidData → IsUntouched (I.left input.old) (I.left input.new)
         (O.taken output.old) (O.taken output.new)) }
 {
     match words {
@@ -44,7 +45,7 @@ fn program<R, I: Source, O: Sink>(
             Ok(words) => answer(rt, alloc, &words, input, output),
             Err(_) => exit_of(Status::NoMemory),
         },
-        Err(error) if error.kind() == io::ErrorKind::InvalidData => {
+        Err(error) if error.kind() == ErrorKind::InvalidData => {
             answer(rt, alloc, &[], input, output)
         }
         Err(_) => exit_of(Status::NoMemory),
