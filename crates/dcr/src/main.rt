@@ -1,27 +1,69 @@
 //! The program `dcr`: standard input to standard output, and the status of the run.
 #![tactic(auto)]
 
-ghost use Rattle.std.specs.Prelude.{◌≡◌, IfOk, drop};
-ghost use Rattle.std.specs.Vec.Iter.{into_iter_items};
+ghost use Rattle.std.specs.Prelude.{◌≡◌, ◌≢◌, [], IfErr, IfOk, drop};
+ghost use Rattle.std.specs.Io.KnownBytes.{IsAtEnd};
+ghost use Rattle.std.specs.IoError.{error_kind};
 ghost use Rattle.std.specs.Process.{exit_status};
+ghost use Rattle.std.specs.Vec.Iter.{into_iter_items};
 ghost use Rattle.dcr_base.specs.Status.{code_of};
+ghost use Rattle.dcr.specs.Exit.{Exits, IsUntouched};
 
 use dcr_app::{Status, dcr};
-use dcr_base::{StdSink, StdSource};
+use dcr_base::{Sink, Source, StdSink, StdSource};
 use std::alloc::Global;
+use std::io::ErrorKind;
 use std::process::ExitCode;
 use std::{env, io};
 
 fn main(rt: HostRuntime) -> ExitCode {
-    let words = match words_of(&rt) {
-        Ok(words) => words,
-        // A word that is no text is no command's, and no words are none either.
-        Err(error) if error.kind() == io::ErrorKind::InvalidData => Vec::new(rt.alloc()),
-        Err(_) => return exit_of(Status::NoMemory),
-    };
     let mut input = StdSource::new(rt.reader());
     let mut output = StdSink::new(io::writer(&rt));
-    let end = dcr(&rt, rt.alloc(), &words, &mut input, &mut output);
+    program(&rt, rt.alloc(), env::args(&rt), &mut input, &mut output)
+}
+
+// The whole program: the words behind the first are the command, and the process ends with the number of the status
+// that the command ends with on this input and output. Words that are no text are no command's. Where memory fails
+// while the words are gathered, it ends as for want of memory, with nothing read and nothing written.
+fn program<R, I: Source, O: Sink>(
+    rt: &R,
+    alloc: Global,
+    words: io::Result<env::Args>,
+    input: &mut I,
+    output: &mut O,
+) -> ExitCode
+    ensures words { IfOk words (λ args. Exits (drop 1 (into_iter_items args)) (I.left input.old) (I.left input.new)
+        (O.taken output.old) (O.taken output.new) (IsAtEnd (I.left input.new)) (exit_status result)) }
+    ensures no_text { IfErr words (λ error. error_kind error ≡ ErrorKind.InvalidData → Exits [] (I.left input.old) (I.left input.new)
+        (O.taken output.old) (O.taken output.new) (IsAtEnd (I.left input.new)) (exit_status result)) }
+    ensures no_words { IfErr words (λ error. error_kind error ≢ ErrorKind.InvalidData → exit_status result ≡ code_of Status.NoMemory) }
+    ensures unread { IfErr words (λ error. error_kind error ≢ ErrorKind.InvalidData → IsUntouched (I.left input.old) (I.left input.new)
+        (O.taken output.old) (O.taken output.new)) }
+{
+    match words {
+        Ok(words) => match behind_first(alloc, words) {
+            Ok(words) => answer(rt, alloc, &words, input, output),
+            Err(_) => exit_of(Status::NoMemory),
+        },
+        Err(error) if error.kind() == ErrorKind::InvalidData => {
+            answer(rt, alloc, &[], input, output)
+        }
+        Err(_) => exit_of(Status::NoMemory),
+    }
+}
+
+// Answers the words of a command.
+fn answer<R, I: Source, O: Sink>(
+    rt: &R,
+    alloc: Global,
+    words: &[String],
+    input: &mut I,
+    output: &mut O,
+) -> ExitCode
+    ensures { Exits words.now (I.left input.old) (I.left input.new) (O.taken output.old) (O.taken output.new)
+        (IsAtEnd (I.left input.new)) (exit_status result) }
+{
+    let end = dcr(rt, alloc, words, input, output);
     exit_of(end.status)
 }
 
@@ -30,11 +72,6 @@ fn exit_of(status: Status) -> ExitCode
     ensures { exit_status result ≡ code_of status }
 {
     ExitCode::from(status.code())
-}
-
-// The words after the program's name.
-fn words_of(rt: &HostRuntime) -> io::Result<Vec<String>> {
-    behind_first(rt.alloc(), env::args(rt)?)
 }
 
 // All words but the first, in order. Each is pushed by itself, so that every growth that is refused is told.

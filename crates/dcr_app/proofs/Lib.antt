@@ -1,3 +1,3 @@
-mod EndLemmas
+mod OutsideLemmas
 mod RunLemmas
 mod ReplayLemmas

@@ -1,5 +1,5 @@
--- What the end of a replay tells.
-use Rattle.std.proofs.Common.{◌≡◌, ◌≢◌, ℕ, ◌<◌, List, length, Option, Some, None, IfSome, inl, inr, refl, sym, ap, subst, ◌∙◌, arith}
+-- What `replay` answers.
+use Rattle.std.proofs.Common.{◌≡◌, ◌≢◌, ◌⊎◌, ℕ, ◌<◌, ◌≤◌, List, length, Option, Some, None, IfSome, inl, inr, refl, sym, ap, subst, ◌∙◌, arith}
 use Rattle.std.specs.Io.KnownBytes.{Appends}
 use Rattle.dcr_base.specs.declared.status.Status.{Status}
 use Rattle.dcr_base.specs.declared.status.Status.TheVariants.{Done, Usage, Refused, ReadFault, WriteFault, NoMemory, Invalid}
@@ -11,119 +11,162 @@ use Rattle.dcr_replay.specs.OneVerdict.{VerdictIsOne}
 use Rattle.dcr_replay.specs.declared.verdict.Verdict.{Verdict}
 use Rattle.dcr_replay.specs.declared.verdict.Verdict.TheVariants as verdict
 use Rattle.dcr_replay.specs.declared.verdict.Wrong.{Wrong}
-use Rattle.dcr_app.specs.Due.{Due, Finds, HasVerdict, IsDueToReport, found_due, refusal_due, verdict_status}
-use Rattle.dcr_app.specs.Ends.{Whole, EndsAs, Ends, IsWhole, Refuses, SaysValid, SaysInvalid, IsAnsweredReport}
-use Rattle.dcr_app.specs.declared.app.End.{End}
+use Rattle.dcr_app.specs.Answers.{AnswersReport, Finds, IsAnsweredReport, IsChecked, Refuses, SaysInvalid, SaysValid, WroteFound, verdict_line, verdict_status}
+use Rattle.dcr_app.specs.Outside.{IsDue, IsSilent, WereLeft, Wrote}
+use Rattle.dcr_app.specs.Refusal.{refusal_line}
 use Rattle.dcr_app.specs.declared.command.Command.TheVariants.{Replay}
-use Rattle.dcr_app.proofs.EndLemmas.{whole_at}
+use Rattle.dcr_app.proofs.OutsideLemmas.{ends_as, longer_than, were_left, wrote_at}
 
--- the line of a verdict is written whole
-pub verdict_is_whole : (v : Verdict) → IsWhole (verdict_status v)
-verdict_is_whole (verdict.Valid count) = tt
-verdict_is_whole (verdict.Invalid line kind) = tt
+-- the line of a verdict is due
+pub verdict_is_due : (v : Verdict) → IsDue (verdict_status v)
+verdict_is_due (verdict.Valid count) = tt
+verdict_is_due (verdict.Invalid line kind) = tt
 
--- ---- what is due to the bytes that were read
+-- ---- from the bytes to what the input had left
 
-pub due_to_text : (left : Option (List ℕ)) (bytes : List ℕ) → IfSome left (λ it. bytes ≡ it) → (due : Due) → HasVerdict bytes due → IsDueToReport left due
-due_to_text None bytes same due has = record { found = Some has.0; finds = tt; owed = has.2 }
-due_to_text (Some it) bytes same due has = record { found = Some has.0; finds = subst (λ t. Finds t (Some has.0)) same has.1; owed = has.2 }
+checked : (bytes : List ℕ) (v : Verdict) (had took : Option (List ℕ)) (status : Status) → length bytes ≤ 268435456 → IsVerdict bytes v
+    → Wrote (verdict_status v) (verdict_line v) status had took → AnswersReport (Some bytes) had took status
+checked bytes v had took status short is wrote = inr (record { bytes = bytes; read = refl; found = Some v; finds = (short, is); line = wrote })
 
-pub due_to_too_much : (left : Option (List ℕ)) → IfSome left (λ bytes. 268435456 < length bytes) → (due : Due) → due ≡ refusal_due TooLong → IsDueToReport left due
-due_to_too_much left more due is = record { found = None; finds = more; owed = is }
+-- the line of the verdict was said
+pub said : (bytes : List ℕ) (v : Verdict) (had took : Option (List ℕ)) (status : Status) → length bytes ≤ 268435456 → IsVerdict bytes v
+    → (due : Status) (text : List ℕ) → due ≡ verdict_status v → {items : List ℕ} → text ≡ items → items ≡ verdict_line v → Wrote due text status had took → AnswersReport (Some bytes) had took status
+said bytes v had took status short is due text due_is read line wrote =
+    checked bytes v had took status short is
+    (subst (λ t. Wrote (verdict_status v) t status had took) (read ∙ line) (subst (λ d. Wrote d text status had took) due_is wrote))
 
--- ---- what the end tells, status by status
+too_much_of : (left : Option (List ℕ)) (bytes : List ℕ) (had took : Option (List ℕ)) (status : Status) → WereLeft left bytes → 268435456 < length bytes
+    → IsSilent status had took ⊎ Wrote Refused (refusal_line TooLong) status had took → AnswersReport left had took status
+too_much_of left bytes had took status read more (inl silent) = inl silent
+too_much_of left bytes had took status read more (inr wrote) = inr (record { bytes = bytes; read = read; found = None; finds = more; line = wrote })
 
-reports : (left : Option (List ℕ)) (count : ℕ) → ValidIsReport → IfSome left (λ bytes. Finds bytes (Some (verdict.Valid count))) → IfSome left (λ bytes. IsReport bytes count)
-reports None count law finds = tt
-reports (Some bytes) count law finds = (law bytes count).0 finds.1
+pub too_much : (left had took : Option (List ℕ)) (status : Status) → IfSome left (λ bytes. 268435456 < length bytes)
+    → IsSilent status had took ⊎ Wrote Refused (refusal_line TooLong) status had took → AnswersReport left had took status
+too_much None had took status more line = let it = longer_than 268435456 in too_much_of None it.0 had took status tt it.1 line
+too_much (Some bytes) had took status more line = too_much_of (Some bytes) bytes had took status refl more line
 
-firsts : (left : Option (List ℕ)) (v : Verdict) → IfSome left (λ bytes. Finds bytes (Some v)) → IfSome left (λ bytes. IsVerdict bytes v)
-firsts None v finds = tt
-firsts (Some bytes) v finds = finds.1
+pub report_from : (left : Option (List ℕ)) (bytes : List ℕ) (had took : Option (List ℕ)) (status : Status) → IfSome left (λ it. bytes ≡ it)
+    → AnswersReport (Some bytes) had took status → AnswersReport left had took status
+report_from left bytes had took status same (inl silent) = inl silent
+report_from left bytes had took status same (inr it) = inr (record {
+  bytes = bytes;
+  read = were_left left bytes same;
+  found = it.found;
+  finds = subst (λ t. Finds t it.found) (sym it.read) it.finds;
+  line = it.line;
+})
 
-valid_by : (left before after : Option (List ℕ)) (found : Option Verdict) (due : Due) → ValidIsReport → IfSome left (λ bytes. Finds bytes found) → due ≡ found_due found
-    → Done ≡ due.status → Appends before after due.text → SaysValid left before after
-valid_by left before after None due law finds owed done wrote = let wrong : Done ≡ Refused = done ∙ ap (λ (d : Due). d.status) owed in absurd cc
-valid_by left before after (Some (verdict.Valid count)) due law finds owed done wrote =
-    record { count = count; report = reports left count law finds; wrote = subst (λ (d : Due). Appends before after d.text) owed wrote }
-valid_by left before after (Some (verdict.Invalid line kind)) due law finds owed done wrote =
-    let wrong : Done ≡ Invalid = done ∙ ap (λ (d : Due). d.status) owed in absurd cc
+-- ---- what the answer tells, status by status
 
-pub says_valid : (left before after : Option (List ℕ)) (end : End) → ValidIsReport → end.status ≡ Done → Ends (IsDueToReport left) before after end → SaysValid left before after
-says_valid left before after end law done ends =
-    let w = whole_at Done (IsDueToReport left) before after end tt done ends in
-    valid_by left before after w.is.found w.due law w.is.finds w.is.owed (sym done ∙ w.status) w.wrote
+-- with a status with which a line is due, the bytes were checked, and the line is that of what was found
+pub record Told (left had took : Option (List ℕ)) (status : Status) : Type 0 where
+  pub bytes : List ℕ
+  pub read : WereLeft left bytes
+  pub found : Option Verdict
+  pub finds : Finds bytes found
+  pub line : WroteFound found status had took
 
-no_reports : (left : Option (List ℕ)) (line : ℕ) (kind : Wrong) → ValidIsReport → VerdictIsOne → IfSome left (λ bytes. Finds bytes (Some (verdict.Invalid line kind)))
-    → IfSome left (λ bytes. (count : ℕ) → IsReport bytes count → ⊥)
-no_reports None line kind law one finds = tt
-no_reports (Some bytes) line kind law one finds = λ count report.
-    let wrong : verdict.Invalid line kind ≡ verdict.Valid count = one bytes (verdict.Invalid line kind) (verdict.Valid count) finds.1 ((law bytes count).1 report) in cc
+told_at : (left had took : Option (List ℕ)) (status named : Status) → status ≡ named → named ≢ ReadFault → named ≢ NoMemory → AnswersReport left had took status → Told left had took named
+told_at left had took status named is reads starves (inl silent) = elim silent.0 [
+  | inl e ↦ absurd (reads (sym is ∙ e))
+  | inr e ↦ absurd (starves (sym is ∙ e))
+]
+told_at left had took status named is reads starves (inr it) =
+    record { bytes = it.bytes; read = it.read; found = it.found; finds = it.finds; line = subst (λ s. WroteFound it.found s had took) is it.line }
 
-leasts : (left : Option (List ℕ)) (line : ℕ) (kind : Wrong) → LeastIsTold → IfSome left (λ bytes. Finds bytes (Some (verdict.Invalid line kind))) → IfSome left (λ bytes. IsLeastWrong bytes line)
-leasts None line kind law finds = tt
-leasts (Some bytes) line kind law finds = law bytes line kind finds.1
+reports : (left : Option (List ℕ)) (bytes : List ℕ) (count : ℕ) → ValidIsReport → WereLeft left bytes → IsVerdict bytes (verdict.Valid count) → IfSome left (λ it. IsReport it count)
+reports None bytes count law read is = tt
+reports (Some it) bytes count law read is = subst (λ t. IsReport t count) (sym read) ((law bytes count).0 is)
 
-invalid_by : (left before after : Option (List ℕ)) (found : Option Verdict) (due : Due) → ValidIsReport → VerdictIsOne → LeastIsTold → IfSome left (λ bytes. Finds bytes found) → due ≡ found_due found
-    → Invalid ≡ due.status → Appends before after due.text → SaysInvalid left before after
-invalid_by left before after None due law one first finds owed is wrote = let wrong : Invalid ≡ Refused = is ∙ ap (λ (d : Due). d.status) owed in absurd cc
-invalid_by left before after (Some (verdict.Valid count)) due law one first finds owed is wrote = let wrong : Invalid ≡ Done = is ∙ ap (λ (d : Due). d.status) owed in absurd cc
-invalid_by left before after (Some (verdict.Invalid line kind)) due law one first finds owed is wrote =
-    record { line = line; kind = kind; first = firsts left (verdict.Invalid line kind) finds; least = leasts left line kind first finds; no_report = no_reports left line kind law one finds; wrote = subst (λ (d : Due). Appends before after d.text) owed wrote }
+valid_by : (left had took : Option (List ℕ)) (bytes : List ℕ) (found : Option Verdict) → ValidIsReport → WereLeft left bytes → Finds bytes found → WroteFound found Done had took
+    → SaysValid left had took
+valid_by left had took bytes None law read finds line = let wrong : Done ≡ Refused = line.0 in absurd cc
+valid_by left had took bytes (Some (verdict.Valid count)) law read finds line = record { count = count; report = reports left bytes count law read finds.1; wrote = line.1 }
+valid_by left had took bytes (Some (verdict.Invalid number kind)) law read finds line = let wrong : Done ≡ Invalid = line.0 in absurd cc
 
-pub says_invalid : (left before after : Option (List ℕ)) (end : End) → ValidIsReport → VerdictIsOne → LeastIsTold → end.status ≡ Invalid → Ends (IsDueToReport left) before after end → SaysInvalid left before after
-says_invalid left before after end law one first is ends =
-    let w = whole_at Invalid (IsDueToReport left) before after end tt is ends in
-    invalid_by left before after w.is.found w.due law one first w.is.finds w.is.owed (sym is ∙ w.status) w.wrote
+pub says_valid : (left had took : Option (List ℕ)) (status : Status) → ValidIsReport → status ≡ Done → AnswersReport left had took status → SaysValid left had took
+says_valid left had took status law is answer =
+    let t = told_at left had took status Done is (λ e. absurd cc) (λ e. absurd cc) answer in valid_by left had took t.bytes t.found law t.read t.finds t.line
 
-refuses_by : (left before after : Option (List ℕ)) (found : Option Verdict) (due : Due) → IfSome left (λ bytes. Finds bytes found) → due ≡ found_due found
-    → Refused ≡ due.status → Appends before after due.text → Refuses (Some Replay) left before after
-refuses_by left before after None due finds owed is wrote = (finds, subst (λ (d : Due). Appends before after d.text) owed wrote)
-refuses_by left before after (Some (verdict.Valid count)) due finds owed is wrote = let wrong : Refused ≡ Done = is ∙ ap (λ (d : Due). d.status) owed in absurd cc
-refuses_by left before after (Some (verdict.Invalid line kind)) due finds owed is wrote = let wrong : Refused ≡ Invalid = is ∙ ap (λ (d : Due). d.status) owed in absurd cc
+-- what holds of the bytes that were read holds of what the input had left
+of_left : (P : List ℕ → Type 0) (left : Option (List ℕ)) (bytes : List ℕ) → WereLeft left bytes → P bytes → IfSome left P
+of_left P None bytes read holds = tt
+of_left P (Some it) bytes read holds = subst P (sym read) holds
 
-pub refuses_replay : (left before after : Option (List ℕ)) (end : End) → end.status ≡ Refused → Ends (IsDueToReport left) before after end → Refuses (Some Replay) left before after
-refuses_replay left before after end is ends =
-    let w = whole_at Refused (IsDueToReport left) before after end tt is ends in
-    refuses_by left before after w.is.found w.due w.is.finds w.is.owed (sym is ∙ w.status) w.wrote
+invalid_by : (left had took : Option (List ℕ)) (bytes : List ℕ) (found : Option Verdict) → ValidIsReport → VerdictIsOne → LeastIsTold → WereLeft left bytes → Finds bytes found
+    → WroteFound found Invalid had took → SaysInvalid left had took
+invalid_by left had took bytes None law one first read finds wrote = let wrong : Invalid ≡ Refused = wrote.0 in absurd cc
+invalid_by left had took bytes (Some (verdict.Valid count)) law one first read finds wrote = let wrong : Invalid ≡ Done = wrote.0 in absurd cc
+invalid_by left had took bytes (Some (verdict.Invalid number kind)) law one first read finds wrote = record {
+  line = number;
+  kind = kind;
+  first = of_left (λ it. IsVerdict it (verdict.Invalid number kind)) left bytes read finds.1;
+  least = of_left (λ it. IsLeastWrong it number) left bytes read (first bytes number kind finds.1);
+  no_report = of_left (λ it. (count : ℕ) → IsReport it count → ⊥) left bytes read
+      (λ count report. let wrong : verdict.Invalid number kind ≡ verdict.Valid count = one bytes (verdict.Invalid number kind) (verdict.Valid count) finds.1 ((law bytes count).1 report) in cc);
+  wrote = wrote.1;
+}
 
-found_status : (found : Option Verdict) → (found_due found).status ≢ Usage
-found_status None = λ e. absurd cc
-found_status (Some (verdict.Valid count)) = λ e. absurd cc
-found_status (Some (verdict.Invalid line kind)) = λ e. absurd cc
+pub says_invalid : (left had took : Option (List ℕ)) (status : Status) → ValidIsReport → VerdictIsOne → LeastIsTold → status ≡ Invalid → AnswersReport left had took status → SaysInvalid left had took
+says_invalid left had took status law one first is answer =
+    let t = told_at left had took status Invalid is (λ e. absurd cc) (λ e. absurd cc) answer in invalid_by left had took t.bytes t.found law one first t.read t.finds t.line
 
-pub no_usage_replay : (left before after : Option (List ℕ)) (end : End) → Ends (IsDueToReport left) before after end → end.status ≢ Usage
-no_usage_replay left before after end ends = λ usage.
-    let w = whole_at Usage (IsDueToReport left) before after end tt usage ends in
-    found_status w.is.found (sym (sym usage ∙ w.status ∙ ap (λ (d : Due). d.status) w.is.owed))
+refuses_by : (left had took : Option (List ℕ)) (bytes : List ℕ) (found : Option Verdict) → WereLeft left bytes → Finds bytes found → WroteFound found Refused had took → Refuses (Some Replay) left had took
+refuses_by left had took bytes None read finds line = (of_left (λ it. 268435456 < length it) left bytes read finds, line.1)
+refuses_by left had took bytes (Some (verdict.Valid count)) read finds line = let wrong : Refused ≡ Done = line.0 in absurd cc
+refuses_by left had took bytes (Some (verdict.Invalid number kind)) read finds line = let wrong : Refused ≡ Invalid = line.0 in absurd cc
+
+pub refuses_replay : (left had took : Option (List ℕ)) (status : Status) → status ≡ Refused → AnswersReport left had took status → Refuses (Some Replay) left had took
+refuses_replay left had took status is answer =
+    let t = told_at left had took status Refused is (λ e. absurd cc) (λ e. absurd cc) answer in refuses_by left had took t.bytes t.found t.read t.finds t.line
+
+usage_by : (had took : Option (List ℕ)) (found : Option Verdict) → WroteFound found Usage had took → ⊥
+usage_by had took None line = let wrong : Usage ≡ Refused = line.0 in absurd cc
+usage_by had took (Some (verdict.Valid count)) line = let wrong : Usage ≡ Done = line.0 in absurd cc
+usage_by had took (Some (verdict.Invalid number kind)) line = let wrong : Usage ≡ Invalid = line.0 in absurd cc
+
+pub no_usage_replay : (left had took : Option (List ℕ)) (status : Status) → AnswersReport left had took status → status ≢ Usage
+no_usage_replay left had took status answer = λ usage.
+    let t = told_at left had took status Usage usage (λ e. absurd cc) (λ e. absurd cc) answer in usage_by had took t.found t.line
 
 -- ---- what an input and an output that don't fail end with
 
-owed_answer : (bytes : List ℕ) (found : Option Verdict) (due : Due) (status : Status) → VerdictIsOne → Finds bytes found → due ≡ found_due found → status ≡ due.status → IsAnsweredReport bytes status
-owed_answer bytes None due status one finds owed is =
-    (λ more. inl (is ∙ ap (λ (d : Due). d.status) owed), λ few v verdict. absurd (omega arith))
-owed_answer bytes (Some found) due status one finds owed is = (
-  λ more. absurd (omega arith),
-  λ few v verdict. inl (is ∙ ap (λ (d : Due). d.status) owed ∙ ap verdict_status (one bytes found v finds.1 verdict)),
+found_answer : (bytes : List ℕ) (found : Option Verdict) (status : Status) (had took : Option (List ℕ)) → VerdictIsOne → Finds bytes found → (status ≡ WriteFault → ⊥)
+    → WroteFound found status had took → IsAnsweredReport bytes status
+found_answer bytes None status had took one finds writes line = (
+  λ more. elim (ends_as Refused (refusal_line TooLong) status had took line) [
+    | inl e ↦ inl e
+    | inr other ↦ elim other [
+      | inl e ↦ absurd (writes e)
+      | inr e ↦ inr e
+    ]
+  ],
+  λ few v verdict. absurd (omega arith),
 )
-
-whole_answer : (bytes : List ℕ) (before after : Option (List ℕ)) (end : End) → VerdictIsOne → Whole (IsDueToReport (Some bytes)) before after end → IsAnsweredReport bytes end.status
-whole_answer bytes before after end one w = owed_answer bytes w.is.found w.due end.status one w.is.finds w.is.owed w.status
+found_answer bytes (Some found) status had took one finds writes line = (
+  λ more. let few = finds.0 in absurd (omega arith),
+  λ few v verdict. let P : Status → Type 0 = λ s. (status ≡ s) ⊎ (status ≡ NoMemory) in
+      subst P (ap verdict_status (one bytes found v finds.1 verdict)) (elim (ends_as (verdict_status found) (verdict_line found) status had took line) [
+        | inl e ↦ inl e
+        | inr other ↦ elim other [
+          | inl e ↦ absurd (writes e)
+          | inr e ↦ inr e
+        ]
+      ]),
+)
 
 starved_report : (bytes : List ℕ) (status : Status) → status ≡ NoMemory → IsAnsweredReport bytes status
 starved_report bytes status is = (λ more. inr is, λ few v verdict. inr is)
 
-answer_as : (status : Status) (bytes : List ℕ) (before after : Option (List ℕ)) (end : End) → VerdictIsOne → end.status ≡ status → (end.status ≡ ReadFault → ⊥) → (end.status ≡ WriteFault → ⊥)
-    → EndsAs status (IsDueToReport (Some bytes)) before after end → IsAnsweredReport bytes end.status
-answer_as Done bytes before after end one is reads writes w = whole_answer bytes before after end one w
-answer_as Usage bytes before after end one is reads writes w = whole_answer bytes before after end one w
-answer_as Refused bytes before after end one is reads writes w = whole_answer bytes before after end one w
-answer_as Invalid bytes before after end one is reads writes w = whole_answer bytes before after end one w
-answer_as ReadFault bytes before after end one is reads writes w = absurd (reads is)
-answer_as WriteFault bytes before after end one is reads writes w = absurd (writes is)
-answer_as NoMemory bytes before after end one is reads writes w = starved_report bytes end.status is
+starved_left : (left : Option (List ℕ)) (status : Status) → status ≡ NoMemory → IfSome left (λ bytes. IsAnsweredReport bytes status)
+starved_left None status is = tt
+starved_left (Some bytes) status is = starved_report bytes status is
 
-pub answered_report : (left before after : Option (List ℕ)) (end : End) → VerdictIsOne → (end.status ≡ ReadFault → ⊥) → (end.status ≡ WriteFault → ⊥)
-    → Ends (IsDueToReport left) before after end → IfSome left (λ bytes. IsAnsweredReport bytes end.status)
-answered_report None before after end one reads writes ends = tt
-answered_report (Some bytes) before after end one reads writes ends = answer_as end.status bytes before after end one refl reads writes ends
+pub answered_report : (left had took : Option (List ℕ)) (status : Status) → VerdictIsOne → (status ≡ ReadFault → ⊥) → (status ≡ WriteFault → ⊥)
+    → AnswersReport left had took status → IfSome left (λ bytes. IsAnsweredReport bytes status)
+answered_report left had took status one reads writes (inl silent) = elim silent.0 [
+  | inl e ↦ absurd (reads e)
+  | inr e ↦ starved_left left status e
+]
+answered_report left had took status one reads writes (inr it) =
+    of_left (λ bytes. IsAnsweredReport bytes status) left it.bytes it.read (found_answer it.bytes it.found status had took one it.finds writes it.line)

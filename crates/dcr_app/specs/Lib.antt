@@ -1,4 +1,5 @@
+pub mod Answers
 pub mod Command
-pub mod Due
-pub mod Ends
+pub mod Headline
+pub mod Outside
 pub mod Refusal

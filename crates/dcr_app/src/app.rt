@@ -2,9 +2,9 @@ ghost use Rattle.std.specs.Prelude.{◌≡◌, ◌≢◌, ◌⊎◌, ◌≤◌, 
 ghost use Rattle.std.specs.Io.KnownBytes.{IsAtEnd};
 ghost use Rattle.dcr_base.specs.Count.{Rose};
 ghost use Rattle.dcr_json.specs.Case.{case_in};
+ghost use Rattle.dcr_app.specs.Answers.{Answers, IsAnsweredCase, IsAnsweredReport, IsDoneThroughout, Refuses, SaysInvalid, SaysValid, WroteReport};
 ghost use Rattle.dcr_app.specs.Command.{command_in};
-ghost use Rattle.dcr_app.specs.Due.{IsDue};
-ghost use Rattle.dcr_app.specs.Ends.{Ends, TookAtMost, most_read, Refuses, Reported, IsRunOfInput, IsDoneThroughout, IsAnsweredCase, SaysValid, SaysInvalid, IsAnsweredReport};
+ghost use Rattle.dcr_app.specs.Outside.{TookAtMost, most_read};
 ghost use Rattle.dcr_app.specs.declared.command.Command.TheVariants.{Run, Replay};
 
 use crate::command::{Command, command_of};
@@ -21,7 +21,8 @@ use std::alloc::Global;
 pub struct End {
     /// How the program ended.
     pub status: Status,
-    /// The run of the case, where it was accepted. With `NoMemory` it may be missing.
+    /// The run of the case, where `run` read one and ran it: with `Done`, and with `WriteFault` where its report was to
+    /// be written. With `NoMemory` it may be there.
     pub closed: Option<Closed>,
 }
 
@@ -34,7 +35,8 @@ pub struct End {
 /// `Done` comes where the report or `valid` was written, `Invalid` where `invalid` was, `Usage` and `Refused`
 /// where their lines were. `ReadFault` comes exactly where a read failed, and then nothing was written.
 /// `WriteFault` comes exactly where a write failed, and then a front of what was to be written was, and not all
-/// of it. `NoMemory` may come in the place of any other answer but that of `usage`, with a front of it.
+/// of it. `NoMemory` may come in the place of any other answer but that of `usage`: nothing was written then, or a
+/// front of what was to be written and not all of it. What is said of a run that is told holds with every status.
 pub fn dcr<R, I: Source, O: Sink>(
     _rt: &R,
     alloc: Global,
@@ -42,7 +44,7 @@ pub fn dcr<R, I: Source, O: Sink>(
     input: &mut I,
     output: &mut O,
 ) -> End
-    ensures answers { Ends (IsDue (command_in words.now) (I.left input.old)) (O.taken output.old) (O.taken output.new) result }
+    ensures answers { Answers (command_in words.now) (I.left input.old) (IsAtEnd (I.left input.new)) (O.taken output.old) (O.taken output.new) result }
     ensures read_counted { result.status ≡ Status.ReadFault → Rose (I.read_faults input.old) (I.read_faults input.new) }
     ensures write_counted { result.status ≡ Status.WriteFault → Rose (O.write_faults output.old) (O.write_faults output.new) }
     ensures no_read_fault { result.status ≢ Status.ReadFault → I.read_faults input.new ≡ I.read_faults input.old }
@@ -59,9 +61,8 @@ pub fn dcr<R, I: Source, O: Sink>(
         → Refuses (command_in words.now) (I.left input.old) (O.taken output.old) (O.taken output.new) }
 
     ensures report { command_in words.now ≡ Some Run → result.status ≡ Status.Done
-        → Reported (I.left input.old) (O.taken output.old) (O.taken output.new) result }
-    ensures run { command_in words.now ≡ Some Run → IsRunOfInput (I.left input.old) result.closed }
-    ensures converse { command_in words.now ≡ Some Run → IsDoneThroughout (I.left input.old) result }
+        → WroteReport (O.taken output.old) (O.taken output.new) result.closed }
+    ensures converse { command_in words.now ≡ Some Run → IsDoneThroughout (I.left input.old) result.closed }
     ensures done { command_in words.now ≡ Some Run
         → (Rose (I.read_faults input.old) (I.read_faults input.new) → ⊥)
         → (Rose (O.write_faults output.old) (O.write_faults output.new) → ⊥)

@@ -1,9 +1,9 @@
 // The command `replay`.
-ghost use Rattle.std.specs.Prelude.{◌≡◌, ◌≢◌, ◌≤◌, length, IfOk};
+ghost use Rattle.std.specs.Prelude.{◌≡◌, ◌≢◌, ◌≤◌, length, Some, None, IfOk};
 ghost use Rattle.std.specs.Io.KnownBytes.{IsAtEnd};
 ghost use Rattle.dcr_base.specs.Count.{Rose};
-ghost use Rattle.dcr_app.specs.Due.{IsDueToReport, HasVerdict, verdict_line, verdict_status};
-ghost use Rattle.dcr_app.specs.Ends.{Ends, TookAtMost};
+ghost use Rattle.dcr_app.specs.Answers.{AnswersReport, verdict_line, verdict_status};
+ghost use Rattle.dcr_app.specs.Outside.{TookAtMost};
 
 use crate::End;
 use crate::lines::{numbered, numbered_word};
@@ -19,7 +19,8 @@ const MAX_BYTES: usize = 268_435_456;
 
 /// Reads a report to its end and tells its verdict.
 pub(crate) fn replay<I: Source, O: Sink>(alloc: Global, input: &mut I, output: &mut O) -> End
-    ensures ends { Ends (IsDueToReport (I.left input.old)) (O.taken output.old) (O.taken output.new) result }
+    ensures closed { result.closed ≡ None }
+    ensures answers { AnswersReport (I.left input.old) (O.taken output.old) (O.taken output.new) result.status }
     ensures asked { TookAtMost 268435457 (I.left input.old) (I.left input.new) }
     ensures ended { result.status ≡ Status.Done → IsAtEnd (I.left input.new) }
     ensures read_counted { result.status ≡ Status.ReadFault → Rose (I.read_faults input.old) (I.read_faults input.new) }
@@ -40,7 +41,8 @@ pub(crate) fn replay<I: Source, O: Sink>(alloc: Global, input: &mut I, output: &
 // Tells the verdict of a text within the limit.
 fn replay_bytes<O: Sink>(alloc: Global, bytes: &[u8], output: &mut O) -> End
     requires { length bytes.now ≤ 268435456 }
-    ensures ends { Ends (HasVerdict bytes.now) (O.taken output.old) (O.taken output.new) result }
+    ensures closed { result.closed ≡ None }
+    ensures answers { AnswersReport (Some bytes.now) (O.taken output.old) (O.taken output.new) result.status }
     ensures no_read_fault { result.status ≢ Status.ReadFault }
     ensures counted { result.status ≡ Status.WriteFault → Rose (O.write_faults output.old) (O.write_faults output.new) }
     ensures no_write_fault { result.status ≢ Status.WriteFault → O.write_faults output.new ≡ O.write_faults output.old }

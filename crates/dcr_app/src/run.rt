@@ -1,5 +1,5 @@
 // The command `run`.
-ghost use Rattle.std.specs.Prelude.{◌≡◌, ◌≢◌, ◌≤◌, length, Ok, Some, All};
+ghost use Rattle.std.specs.Prelude.{◌≡◌, ◌≢◌, ◌≤◌, ℕ, List, length, Ok, Some, None, All, ⊤};
 ghost use Rattle.std.specs.Io.KnownBytes.{IsAtEnd};
 ghost use Rattle.dcr_base.specs.Count.{Rose};
 ghost use Rattle.dcr_graph.specs.Cause.{waits};
@@ -10,8 +10,8 @@ ghost use Rattle.dcr_nest.specs.FlatRelation.{IsFlattening};
 ghost use Rattle.dcr_json.specs.Built.{case_of, IsCase};
 ghost use Rattle.dcr_json.specs.Case.{case_in};
 ghost use Rattle.dcr_report.specs.Report.{report_text};
-ghost use Rattle.dcr_app.specs.Due.{IsDueToCase, IsOwed};
-ghost use Rattle.dcr_app.specs.Ends.{Ends, TookAtMost};
+ghost use Rattle.dcr_app.specs.Answers.{AnswersCase, WroteReport};
+ghost use Rattle.dcr_app.specs.Outside.{TookAtMost, Wrote};
 
 use crate::End;
 use crate::say::{refuse, silent};
@@ -30,7 +30,9 @@ const MAX_BYTES: usize = 16_777_216;
 
 /// Reads a case to its end, runs it, and writes its report.
 pub(crate) fn run<I: Source, O: Sink>(alloc: Global, input: &mut I, output: &mut O) -> End
-    ensures ends { Ends (IsDueToCase (I.left input.old)) (O.taken output.old) (O.taken output.new) result }
+    ensures answers { AnswersCase (I.left input.old) (IsAtEnd (I.left input.new)) (O.taken output.old) (O.taken output.new)
+        result.status result.closed }
+    ensures report { result.status ≡ Status.Done → WroteReport (O.taken output.old) (O.taken output.new) result.closed }
     ensures asked { TookAtMost 16777217 (I.left input.old) (I.left input.new) }
     ensures ended { result.status ≡ Status.Done → IsAtEnd (I.left input.new) }
     ensures read_counted { result.status ≡ Status.ReadFault → Rose (I.read_faults input.old) (I.read_faults input.new) }
@@ -50,7 +52,8 @@ pub(crate) fn run<I: Source, O: Sink>(alloc: Global, input: &mut I, output: &mut
 
 // Answers the bytes of a file.
 fn run_bytes<O: Sink>(alloc: Global, bytes: &[u8], output: &mut O) -> End
-    ensures ends { Ends (IsOwed (case_in bytes.now)) (O.taken output.old) (O.taken output.new) result }
+    ensures answers { AnswersCase (Some bytes.now) ⊤ (O.taken output.old) (O.taken output.new) result.status result.closed }
+    ensures report { result.status ≡ Status.Done → WroteReport (O.taken output.old) (O.taken output.new) result.closed }
     ensures no_read_fault { result.status ≢ Status.ReadFault }
     ensures counted { result.status ≡ Status.WriteFault → Rose (O.write_faults output.old) (O.write_faults output.new) }
     ensures no_write_fault { result.status ≢ Status.WriteFault → O.write_faults output.new ≡ O.write_faults output.old }
@@ -65,7 +68,9 @@ fn run_bytes<O: Sink>(alloc: Global, bytes: &[u8], output: &mut O) -> End
 // Runs a case and writes the report of the run.
 fn run_and_report<O: Sink>(alloc: Global, case: Case, output: &mut O) -> End
     requires { IsCase case }
-    ensures ends { Ends (IsOwed (Ok (case_of case))) (O.taken output.old) (O.taken output.new) result }
+    ensures answers { (bytes : List ℕ) → case_in bytes ≡ Ok (case_of case)
+        → AnswersCase (Some bytes) ⊤ (O.taken output.old) (O.taken output.new) result.status result.closed }
+    ensures report { result.status ≡ Status.Done → WroteReport (O.taken output.old) (O.taken output.new) result.closed }
     ensures no_read_fault { result.status ≢ Status.ReadFault }
     ensures counted { result.status ≡ Status.WriteFault → Rose (O.write_faults output.old) (O.write_faults output.new) }
     ensures no_write_fault { result.status ≢ Status.WriteFault → O.write_faults output.new ≡ O.write_faults output.old }
@@ -101,12 +106,9 @@ fn report<O: Sink>(
         (after (rules_of graph.now) closed.opening closed.history.entries) }
     requires verdict { closed.waits ≡ waits (length graph.now.names)
         (after (rules_of graph.now) closed.opening closed.history.entries) }
-    ensures ends { Ends (λ due. due ≡ record {
-      status = Status.Done;
-      text = report_text nested.now cover.now closed.opening closed.history.entries;
-      closed = Some closed;
-    })
-        (O.taken output.old) (O.taken output.new) result }
+    ensures closed { result.closed ≡ Some closed }
+    ensures wrote { Wrote Status.Done (report_text nested.now cover.now closed.opening closed.history.entries) result.status
+        (O.taken output.old) (O.taken output.new) }
     ensures no_read_fault { result.status ≢ Status.ReadFault }
     ensures counted { result.status ≡ Status.WriteFault → Rose (O.write_faults output.old) (O.write_faults output.new) }
     ensures no_write_fault { result.status ≢ Status.WriteFault → O.write_faults output.new ≡ O.write_faults output.old }

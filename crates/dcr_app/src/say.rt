@@ -1,8 +1,8 @@
 // Ends without a run.
 ghost use Rattle.std.specs.Prelude.{◌≡◌, ◌≢◌, ◌≤◌, ◌⊎◌, None};
 ghost use Rattle.dcr_base.specs.Count.{Rose};
-ghost use Rattle.dcr_app.specs.Due.{line_due, refusal_due};
-ghost use Rattle.dcr_app.specs.Ends.{Ends, IsWhole, Nothing};
+ghost use Rattle.dcr_app.specs.Outside.{IsDue, IsSilent, Wrote};
+ghost use Rattle.dcr_app.specs.Refusal.{refusal_line};
 
 use crate::End;
 use crate::refusal::line_of;
@@ -22,8 +22,9 @@ pub(crate) fn silent(status: Status) -> End
 
 /// Writes a line that tells of no run.
 pub(crate) fn say<O: Sink>(output: &mut O, line: &[u8], status: Status) -> End
-    requires { IsWhole status }
-    ensures ends { Ends (λ due. due ≡ line_due status line.now) (O.taken output.old) (O.taken output.new) result }
+    requires { IsDue status }
+    ensures closed { result.closed ≡ None }
+    ensures wrote { Wrote status line.now result.status (O.taken output.old) (O.taken output.new) }
     ensures status { (result.status ≡ status) ⊎ (result.status ≡ Status.WriteFault) }
     ensures counted { result.status ≡ Status.WriteFault → Rose (O.write_faults output.old) (O.write_faults output.new) }
     ensures no_fault { result.status ≢ Status.WriteFault → O.write_faults output.new ≡ O.write_faults output.old }
@@ -35,20 +36,40 @@ pub(crate) fn say<O: Sink>(output: &mut O, line: &[u8], status: Status) -> End
     }
 }
 
-/// Tells a refusal. Nothing is written where it is want of memory.
+/// Tells a refusal. Nothing is written where it is want of memory, or where memory could not be had for the line. The
+/// line of a file that is too long needs none.
 pub(crate) fn refuse<O: Sink>(alloc: Global, output: &mut O, stop: CaseStop) -> End
-    ensures ends { stop ≢ CaseStop.NoMemory → Ends (λ due. due ≡ refusal_due stop) (O.taken output.old) (O.taken output.new) result }
+    ensures closed { result.closed ≡ None }
+    ensures wrote { stop ≢ CaseStop.NoMemory
+        → IsSilent result.status (O.taken output.old) (O.taken output.new)
+        ⊎ Wrote Status.Refused (refusal_line stop) result.status (O.taken output.old) (O.taken output.new) }
     ensures starves { stop ≡ CaseStop.NoMemory → result.status ≡ Status.NoMemory }
-    ensures nothing { stop ≡ CaseStop.NoMemory → Nothing (O.taken output.old) (O.taken output.new) result }
+    ensures silent { stop ≡ CaseStop.NoMemory → IsSilent result.status (O.taken output.old) (O.taken output.new) }
+    ensures too_long { stop ≡ CaseStop.TooLong → result.status ≢ Status.NoMemory }
     ensures refused { result.status ≢ Status.Done }
     ensures read { result.status ≢ Status.ReadFault }
     ensures counted { result.status ≡ Status.WriteFault → Rose (O.write_faults output.old) (O.write_faults output.new) }
     ensures no_fault { result.status ≢ Status.WriteFault → O.write_faults output.new ≡ O.write_faults output.old }
     ensures never_falls { O.write_faults output.old ≤ O.write_faults output.new }
 {
-    if let CaseStop::NoMemory = stop {
-        return silent(Status::NoMemory);
+    match stop {
+        CaseStop::NoMemory => silent(Status::NoMemory),
+        CaseStop::TooLong => say(output, b"refused 1 too-long\n", Status::Refused),
+        stop => refuse_with(alloc, output, stop),
     }
+}
+
+// Tells a refusal other than want of memory, by a line that is put together.
+fn refuse_with<O: Sink>(alloc: Global, output: &mut O, stop: CaseStop) -> End
+    ensures closed { result.closed ≡ None }
+    ensures wrote { IsSilent result.status (O.taken output.old) (O.taken output.new)
+        ⊎ Wrote Status.Refused (refusal_line stop) result.status (O.taken output.old) (O.taken output.new) }
+    ensures refused { result.status ≢ Status.Done }
+    ensures read { result.status ≢ Status.ReadFault }
+    ensures counted { result.status ≡ Status.WriteFault → Rose (O.write_faults output.old) (O.write_faults output.new) }
+    ensures no_fault { result.status ≢ Status.WriteFault → O.write_faults output.new ≡ O.write_faults output.old }
+    ensures never_falls { O.write_faults output.old ≤ O.write_faults output.new }
+{
     match line_of(alloc, &stop) {
         Ok(line) => say(output, &line, Status::Refused),
         Err(_) => silent(Status::NoMemory),
