@@ -2,7 +2,6 @@
 #![tactic(auto)]
 
 ghost use Rattle.std.specs.Prelude.{◌≡◌, ◌≢◌, [], IfErr, IfOk, drop};
-ghost use Rattle.std.specs.Io.KnownBytes.{IsAtEnd};
 ghost use Rattle.std.specs.IoError.{error_kind};
 ghost use Rattle.std.specs.Process.{exit_status};
 ghost use Rattle.std.specs.Vec.Iter.{into_iter_items};
@@ -33,9 +32,9 @@ fn program<R, I: Source, O: Sink>(
     output: &mut O,
 ) -> ExitCode
     ensures words { IfOk words (λ args. Exits (drop 1 (into_iter_items args)) (I.left input.old) (I.left input.new)
-        (O.taken output.old) (O.taken output.new) (IsAtEnd (I.left input.new)) (exit_status result)) }
+        (O.taken output.old) (O.taken output.new) (I.has_ended input.new) (exit_status result)) }
     ensures no_text { IfErr words (λ error. error_kind error ≡ ErrorKind.InvalidData → Exits [] (I.left input.old) (I.left input.new)
-        (O.taken output.old) (O.taken output.new) (IsAtEnd (I.left input.new)) (exit_status result)) }
+        (O.taken output.old) (O.taken output.new) (I.has_ended input.new) (exit_status result)) }
     ensures no_words { IfErr words (λ error. error_kind error ≢ ErrorKind.InvalidData → exit_status result ≡ code_of Status.NoMemory) }
     ensures unread { IfErr words (λ error. error_kind error ≢ ErrorKind.InvalidData → IsUntouched (I.left input.old) (I.left input.new)
         (O.taken output.old) (O.taken output.new)) }
@@ -61,7 +60,7 @@ fn answer<R, I: Source, O: Sink>(
     output: &mut O,
 ) -> ExitCode
     ensures { Exits words.now (I.left input.old) (I.left input.new) (O.taken output.old) (O.taken output.new)
-        (IsAtEnd (I.left input.new)) (exit_status result) }
+        (I.has_ended input.new) (exit_status result) }
 {
     let end = dcr(rt, alloc, words, input, output);
     exit_of(end.status)

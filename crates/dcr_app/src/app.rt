@@ -44,7 +44,7 @@ pub fn dcr<R, I: Source, O: Sink>(
     input: &mut I,
     output: &mut O,
 ) -> End
-    ensures answers { Answers (command_in words.now) (I.left input.old) (IsAtEnd (I.left input.new)) (O.taken output.old) (O.taken output.new) result }
+    ensures answers { Answers (command_in words.now) (I.left input.old) (I.has_ended input.new) (O.taken output.old) (O.taken output.new) result }
     ensures read_counted { result.status ≡ Status.ReadFault → Rose (I.read_faults input.old) (I.read_faults input.new) }
     ensures write_counted { result.status ≡ Status.WriteFault → Rose (O.write_faults output.old) (O.write_faults output.new) }
     ensures no_read_fault { result.status ≢ Status.ReadFault → I.read_faults input.new ≡ I.read_faults input.old }
@@ -52,7 +52,8 @@ pub fn dcr<R, I: Source, O: Sink>(
     ensures reads_never_fall { I.read_faults input.old ≤ I.read_faults input.new }
     ensures writes_never_fall { O.write_faults output.old ≤ O.write_faults output.new }
     ensures asked { TookAtMost (most_read (command_in words.now)) (I.left input.old) (I.left input.new) }
-    ensures ended { result.status ≡ Status.Done → IsAtEnd (I.left input.new) }
+    ensures ended { result.status ≡ Status.Done → I.has_ended input.new }
+    ensures none_left { result.status ≡ Status.Done → IsAtEnd (I.left input.new) }
 
     ensures usage { command_in words.now ≡ None → (result.status ≡ Status.Usage) ⊎ (result.status ≡ Status.WriteFault) }
     ensures usage_only { result.status ≡ Status.Usage → command_in words.now ≡ None }

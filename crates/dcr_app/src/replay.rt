@@ -22,7 +22,8 @@ pub(crate) fn replay<I: Source, O: Sink>(alloc: Global, input: &mut I, output: &
     ensures closed { result.closed ≡ None }
     ensures answers { AnswersReport (I.left input.old) (O.taken output.old) (O.taken output.new) result.status }
     ensures asked { TookAtMost 268435457 (I.left input.old) (I.left input.new) }
-    ensures ended { result.status ≡ Status.Done → IsAtEnd (I.left input.new) }
+    ensures ended { result.status ≡ Status.Done → I.has_ended input.new }
+    ensures none_left { result.status ≡ Status.Done → IsAtEnd (I.left input.new) }
     ensures read_counted { result.status ≡ Status.ReadFault → Rose (I.read_faults input.old) (I.read_faults input.new) }
     ensures write_counted { result.status ≡ Status.WriteFault → Rose (O.write_faults output.old) (O.write_faults output.new) }
     ensures no_read_fault { result.status ≢ Status.ReadFault → I.read_faults input.new ≡ I.read_faults input.old }

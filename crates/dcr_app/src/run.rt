@@ -30,11 +30,12 @@ const MAX_BYTES: usize = 16_777_216;
 
 /// Reads a case to its end, runs it, and writes its report.
 pub(crate) fn run<I: Source, O: Sink>(alloc: Global, input: &mut I, output: &mut O) -> End
-    ensures answers { AnswersCase (I.left input.old) (IsAtEnd (I.left input.new)) (O.taken output.old) (O.taken output.new)
+    ensures answers { AnswersCase (I.left input.old) (I.has_ended input.new) (O.taken output.old) (O.taken output.new)
         result.status result.closed }
     ensures report { result.status ≡ Status.Done → WroteReport (O.taken output.old) (O.taken output.new) result.closed }
     ensures asked { TookAtMost 16777217 (I.left input.old) (I.left input.new) }
-    ensures ended { result.status ≡ Status.Done → IsAtEnd (I.left input.new) }
+    ensures ended { result.status ≡ Status.Done → I.has_ended input.new }
+    ensures none_left { result.status ≡ Status.Done → IsAtEnd (I.left input.new) }
     ensures read_counted { result.status ≡ Status.ReadFault → Rose (I.read_faults input.old) (I.read_faults input.new) }
     ensures write_counted { result.status ≡ Status.WriteFault → Rose (O.write_faults output.old) (O.write_faults output.new) }
     ensures no_read_fault { result.status ≢ Status.ReadFault → I.read_faults input.new ≡ I.read_faults input.old }

@@ -1,5 +1,5 @@
 use Rattle.std.proofs.Common.{◌≡◌, ℕ, List, [], Option, Some, None, IfOk, drop, inr, refl, subst, sym}
-use Rattle.std.specs.Io.KnownBytes.{Appends, IsAtEnd}
+use Rattle.std.specs.Io.KnownBytes.{Appends}
 use Rattle.std.specs.Vec.Iter.{into_iter_items}
 use Rattle.std.proofs.lemmas.List.{append-nil}
 use Rattle.std.specs.Process.{exit_status}
@@ -15,5 +15,5 @@ appends_nothing (Some xs) = sym (append-nil xs)
 pub returns-in-Err-behind_first-clause-words : goal.returns-in-Err-behind_first-clause-words
 returns-in-Err-behind_first-clause-words g c =
     let left = g.I.Source.left c.args.input.now in let had = g.O.Sink.taken c.args.output.now in let code = exit_status c.exit_of.result in
-    subst (λ words. IfOk words (λ args. Exits (drop 1 (into_iter_items args)) left left had had (IsAtEnd left) code)) (sym c.in-Ok.is)
+    subst (λ words. IfOk words (λ args. Exits (drop 1 (into_iter_items args)) left left had had (g.I.Source.has_ended c.args.input.now) code)) (sym c.in-Ok.is)
     (record { end = record { status = NoMemory; closed = None }; code = c.exit_of.ensures; answers = inr (refl, (refl, appends_nothing had)) })
