@@ -12,6 +12,7 @@ use std::sync::atomic::Ordering::SeqCst;
 use std::test::Fail;
 use std::thread;
 use std::thread::Threads;
+use std::time::Duration;
 
 #[derive(Drop)]
 struct Lot {
@@ -103,6 +104,46 @@ fn two_places(rt: HostRuntime) -> Result<(), Fail> {
     assert!(rt; in_time && held_before);
     assert_eq!(rt; amount, 20);
     assert_eq!(rt; row.lock(&rt, 0).keep().amount, 10);
+    Ok(())
+}
+
+// Who waits for a place is woken when that place is given back, though another stays held.
+#[test]
+fn a_place_given_back_wakes_who_waits_for_it(rt: HostRuntime) -> Result<(), Fail> {
+    let row = opened(rt.alloc(), &[10, 20])?;
+    let both_held = AtomicBool::new(false);
+    let asks = AtomicBool::new(false);
+    let was_woken = AtomicBool::new(false);
+    let (in_time, (held_before, amount)) = thread::join(
+        &rt,
+        || -> bool
+            requires { 1 < row }
+        {
+            let first = row.lock(&rt, 0);
+            let second = row.lock(&rt, 1);
+            both_held.store(true, SeqCst);
+            let asked = comes(&asks);
+            // Time for the other to fall asleep.
+            thread::sleep(&rt, Duration::from_millis(100));
+            second.unlock();
+            let in_time = comes(&was_woken);
+            first.unlock();
+            asked && in_time
+        },
+        || -> (bool, u64)
+            requires { 1 < row }
+        {
+            let held_before = comes(&both_held);
+            asks.store(true, SeqCst);
+            let mut second = row.lock(&rt, 1);
+            was_woken.store(true, SeqCst);
+            let amount = second.value().amount;
+            second.unlock();
+            (held_before, amount)
+        },
+    );
+    assert!(rt; in_time && held_before);
+    assert_eq!(rt; amount, 20);
     Ok(())
 }
 

@@ -14,15 +14,16 @@ struct Pieces<'a> {
     step: usize,
     calls: usize,
     fails_at: usize,
+    has_ended: bool,
     faults: u64,
 }
 
 impl Source for Pieces<'_> {
-    ghost use Rattle.std.specs.Prelude.{◌≡◌, [], None};
+    ghost use Rattle.std.specs.Prelude.{None, IsTrue};
 
     ghost left = { λ _. None };
 
-    ghost has_ended = { λ pieces. pieces.rest.now ≡ [] };
+    ghost has_ended = { λ pieces. IsTrue pieces.has_ended };
 
     ghost read_faults = { λ pieces. pieces.faults };
 
@@ -32,10 +33,14 @@ impl Source for Pieces<'_> {
             self.faults = self.faults.saturating_add(1);
             return Err(Failed);
         }
+        if self.has_ended {
+            return Ok(0);
+        }
         let n = self.step.min(buf.len()).min(self.rest.len());
         let (piece, rest) = self.rest.split_at(n);
         buf[..n].copy_from_slice(piece);
         self.rest = rest;
+        self.has_ended = n == 0 && !buf.is_empty();
         Ok(n)
     }
 
@@ -123,6 +128,7 @@ fn make_pieces(rest: &[u8], step: usize, fails_at: usize) -> Pieces<'_> {
         step,
         calls: 0,
         fails_at,
+        has_ended: false,
         faults: 0,
     }
 }
