@@ -1,4 +1,3 @@
-pub mod IndexLemmas
 pub mod SetsLemmas
 pub mod CheckLemmas
 pub mod RefusalLemmas

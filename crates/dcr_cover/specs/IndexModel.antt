@@ -11,7 +11,7 @@ nest_of x = x.nested.now
 
 -- the names of its nodes in order, the atoms at or below each of them, and how many atoms there are
 pub record IsIndex (x : Inside) : Type 0 where
-  pub names : map (λ name. name.now) x.names.keys ≡ names_of x.nested.now.nodes
+  pub names : x.names ≡ names_of x.nested.now.nodes
   pub below : x.below.items ≡ map (atoms_below (parents_of x.nested.now.nodes)) (range_with_len 0 (length x.nested.now.nodes))
   pub atoms : x.atoms ≡ atom_count x.nested.now
   pub most_nodes : length x.nested.now.nodes ≤ 2048

@@ -1,7 +1,9 @@
-use dcr_graph::Graph;
-use dcr_nest::Nested;
+ghost use Rattle.std.specs.Prelude.{◌≡◌, map, IfOk};
+ghost use Rattle.dcr_nest.specs.Nest.{names_of};
+
+use dcr_graph::{Graph, NameIndex};
+use dcr_nest::{Nested, Node};
 use dcr_set::{EventSet, NoMemory};
-use indexmap::IndexSet;
 use std::alloc::Global;
 use std::marker::Model;
 
@@ -12,7 +14,7 @@ use std::marker::Model;
 pub(crate) struct Index<'n> {
     nested: &'n Nested,
     atoms: u16,
-    names: IndexSet<&'n str>,
+    names: NameIndex<'n>,
     below: Vec<EventSet>,
 }
 
@@ -44,10 +46,7 @@ impl<'n> Index<'n> {
         requires { IsFlattening nested.now graph.now }
         ensures { IfOk result (λ index. index ≡ nested.now) }
     {
-        let mut names = IndexSet::new(alloc);
-        for node in nested.nodes() {
-            names.insert(node.name.text())?;
-        }
+        let names = NameIndex::new(alloc, name_texts(alloc, nested.nodes())?)?;
         let below = nested.all_below(alloc)?;
         Ok(Index {
             nested,
@@ -69,10 +68,7 @@ impl<'n> Index<'n> {
     pub(crate) fn find(&self, name: &str) -> Option<u16>
         ensures { result ≡ node_named self.now name.now }
     {
-        let Some(place) = self.names.get_index_of(name) else {
-            return None;
-        };
-        Some(place as u16)
+        self.names.find(name.as_bytes())
     }
 
     /// The atoms at or below a node.
@@ -83,4 +79,15 @@ impl<'n> Index<'n> {
     {
         &self.below[usize::from(node)]
     }
+}
+
+// The names of the nodes, in order.
+fn name_texts(alloc: Global, nodes: &[Node]) -> Result<Vec<&[u8]>, NoMemory>
+    ensures { IfOk result (λ texts. map (λ text. text.now) texts.items ≡ names_of nodes.now) }
+{
+    let mut texts = Vec::with_capacity(alloc, nodes.len())?;
+    for node in nodes {
+        texts.push(node.name.text().as_bytes())?;
+    }
+    Ok(texts)
 }
