@@ -1,5 +1,6 @@
 pub mod Names
 pub mod Rules
+pub mod KindText
 pub mod Cause
 pub mod Step
 pub mod Projection

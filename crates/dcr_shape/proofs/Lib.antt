@@ -5,3 +5,4 @@ pub mod OrderLemmas
 pub mod EachLemmas
 pub mod TellLemmas
 pub mod ShapeLemmas
+pub mod ContentLemmas

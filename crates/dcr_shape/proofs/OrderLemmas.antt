@@ -1,7 +1,7 @@
 -- Stages that refuse in an order: what the first refusal is, both ways.
-use Rattle.std.proofs.Common.{◌≡◌, ℕ, ◌+◌, ◌<◌, inl, inr, Result, Ok, Err, sym, ap, ◌∙◌, subst, arith}
+use Rattle.std.proofs.Common.{◌≡◌, ℕ, ◌+◌, ◌<◌, inl, inr, List, Result, Ok, Err, sym, ap, ◌∙◌, subst, arith}
 use Rattle.std.proofs.lemmas.Bool.{cases_lt}
-use Rattle.dcr_shape.specs.Order.{IsFirstToFail, RefusesFirst}
+use Rattle.dcr_shape.specs.Order.{EachAt, FailsFirst, IsFirstToFail, RefusesFirst}
 use Rattle.dcr_shape.specs.Stages.{after}
 
 -- ---- one stage
@@ -10,6 +10,20 @@ use Rattle.dcr_shape.specs.Stages.{after}
 pub data Outcome {A I E : Type 0} (stop : I → E) (r : Result A E) (Holding : Type 0) (Failing : I → Type 0) : Type 0 where
   passed : (x : A) → r ≡ Ok x → Holding → Outcome stop r Holding Failing
   failed : (i : I) → r ≡ Err (stop i) → Failing i → Outcome stop r Holding Failing
+
+-- ---- each of a list
+
+pub not_each : {A : Type 0} (P : ℕ → A → Type 0) (xs : List A) (i : ℕ) → FailsFirst P xs i → EachAt P xs → ⊥
+not_each P xs i first each = first.fails (each i first.element first.at)
+
+pub least_alone : {A : Type 0} (P : ℕ → A → Type 0) (xs : List A) (i j : ℕ) → FailsFirst P xs i → FailsFirst P xs j → i ≡ j
+least_alone P xs i j a b = elim (cases_lt i j) [
+  | inl less ↦ absurd (a.fails (b.earlier i a.element less a.at))
+  | inr not_less ↦ elim (cases_lt j i) [
+    | inl more ↦ absurd (b.fails (a.earlier j b.element more b.at))
+    | inr not_more ↦ omega arith
+  ]
+]
 
 -- ---- stages one after another
 

@@ -1,24 +1,24 @@
 -- The stages of the shape, one after another: each part is of its shape, or is the first to fail.
-use Rattle.std.proofs.Common.{◌≡◌, ℕ, zero, suc, ◌+◌, ◌<◌, inl, inr, List, [], ◌∷◌, get_or, codes, Option, Some, None, unwrap_or, Result, Ok, Err, refl, sym, ap, ◌∙◌, subst, arith}
-use Rattle.std.specs.List.{All}
+use Rattle.std.proofs.Common.{◌≡◌, ℕ, zero, suc, ◌+◌, ◌<◌, List, [], ◌∷◌, codes, Option, Some, None, unwrap_or, Result, Ok, Err, refl, sym, ap, ◌∙◌, subst, arith}
+use Rattle.std.specs.List.{All, slice_get}
 use Rattle.std.specs.Option.{ok_or}
-use Rattle.std.proofs.lemmas.Bool.{cases_lt}
-use Rattle.std.proofs.lemmas.Option.{option_and_then_some, same_Some}
+use Rattle.std.proofs.lemmas.Option.{get_or_from_slice_get, option_and_then_some, same_Some, slice_get_within}
 use Rattle.serde_json.specs.Data.{Data, null}
 use Rattle.serde_json.specs.Find.{get}
 use Rattle.dcr_shape.specs.Case.{shape_in}
 use Rattle.dcr_shape.specs.Laws.{rank, ShapeIsTheFormats}
 use Rattle.dcr_shape.specs.Members.{◌>>=◌, elements}
+use Rattle.dcr_shape.specs.Order.{FailsFirst}
 use Rattle.dcr_shape.specs.Parts.{Arrays, top_in, elements_or_none, graph_in, event_in, relation_in, cover_in, site_in, sessions_in, texts_in}
 use Rattle.dcr_shape.specs.Shape.{shaped, each_shaped}
 use Rattle.dcr_shape.specs.Stages.{after, each_from}
-use Rattle.dcr_shape.specs.Words.{IsArray, IsArrayOfTexts, HasMember, MayHaveMember, IsTop, IsGraph, IsEvent, IsRelation, IsSite, elements_at, graph_elements, Holds, FailsFirst, FailsAt}
+use Rattle.dcr_shape.specs.Words.{IsArray, IsArrayOfTexts, HasMember, MayHaveMember, IsTop, IsGraph, IsEvent, IsRelation, IsSite, elements_at, graph_elements, Holds, FailsAt}
 use Rattle.dcr_shape.specs.declared.stop.Part.{Part}
 use Rattle.dcr_shape.specs.declared.stop.Part.TheVariants as part
 use Rattle.dcr_shape.specs.declared.stop.ReadStop.{ReadStop}
 use Rattle.dcr_shape.specs.declared.stop.ReadStop.TheVariants.{Shape}
 use Rattle.dcr_shape.specs.declared.written.Written.{Written}
-use Rattle.dcr_shape.proofs.OrderLemmas.{Outcome, passed, failed, Ends, all_hold, IsOrder, UpTo, up_to_none, stage, refuses_first}
+use Rattle.dcr_shape.proofs.OrderLemmas.{Outcome, passed, failed, least_alone, Ends, all_hold, IsOrder, UpTo, up_to_none, stage, refuses_first}
 use Rattle.dcr_shape.proofs.TellLemmas.{Tells, tells_top, tells_second, tells_graph, tells_event, tells_relation, tells_cover, tells_site, tells_sessions, tells_texts}
 
 -- ---- a stage
@@ -36,26 +36,29 @@ all_first : (P : Data → Type 0) (d : Data) (ds : List Data) → P d → All P 
 all_first P d ds here later zero v l = here
 all_first P d ds here later (suc k) v l = later k v (omega arith)
 
-fails_here : (P : Data → Type 0) (d : Data) (ds : List Data) → ¬ P d → FailsFirst P (d ∷ ds) 0
-fails_here P d ds never = record { below = omega arith; fails = λ v. never; passes = λ j v l. absurd (omega arith) }
+abbrev PartFails : (Data → Type 0) → List Data → ℕ → Type 0
+PartFails P ds i = FailsFirst (λ _ part. P part) ds i
 
-fails_later : (P : Data → Type 0) (d : Data) (ds : List Data) (i : ℕ) → P d → FailsFirst P ds i → FailsFirst P (d ∷ ds) (suc i)
-fails_later P d ds i here first = let below = first.below in record { below = omega arith; fails = λ v. first.fails v; passes = earlier }
+fails_here : (P : Data → Type 0) (d : Data) (ds : List Data) → ¬ P d → PartFails P (d ∷ ds) 0
+fails_here P d ds never = record { element = d; at = refl; fails = never; earlier = λ j v l is. absurd (omega arith) }
+
+fails_later : (P : Data → Type 0) (d : Data) (ds : List Data) (i : ℕ) → P d → PartFails P ds i → PartFails P (d ∷ ds) (suc i)
+fails_later P d ds i here first = record { element = first.element; at = first.at; fails = first.fails; earlier = earlier }
   where
-    earlier : (j : ℕ) (v : Data) → j < suc i → P (get_or (d ∷ ds) j v)
-    earlier zero v l = here
-    earlier (suc j) v l = first.passes j v (omega arith)
+    earlier : (j : ℕ) (v : Data) → j < suc i → slice_get (d ∷ ds) j ≡ Some v → P v
+    earlier zero v l is = subst P (same_Some _ _ is) here
+    earlier (suc j) v l is = first.earlier j v (omega arith) is
 
 -- counting from n
 data OutcomeFrom {A : Type 0} (part : Part) (n : ℕ) (r : Result A ReadStop) (Holding : Type 0) (Failing : ℕ → Type 0) : Type 0 where
   passed_from : (x : A) → r ≡ Ok x → Holding → OutcomeFrom part n r Holding Failing
   failed_from : (i : ℕ) → r ≡ Err (Shape part (n + i)) → Failing i → OutcomeFrom part n r Holding Failing
 
-each_outcome_from : {A : Type 0} (part : Part) (read : Data → Option A) (P : Data → Type 0) → ((d : Data) → Tells (read d) (P d)) → (n : ℕ) (ds : List Data) → OutcomeFrom part n (each_from (shaped part read) n ds) (All P ds) (FailsFirst P ds)
+each_outcome_from : {A : Type 0} (part : Part) (read : Data → Option A) (P : Data → Type 0) → ((d : Data) → Tells (read d) (P d)) → (n : ℕ) (ds : List Data) → OutcomeFrom part n (each_from (shaped part read) n ds) (All P ds) (PartFails P ds)
 each_outcome_from part read P t n [] = passed_from [] refl (λ k v l. absurd (omega arith))
 each_outcome_from {A = A} part read P t n (d ∷ ds) = at (read d) refl (each_outcome_from part read P t (n + 1) ds)
   where
-    at : (o : Option A) → read d ≡ o → OutcomeFrom part (n + 1) (each_from (shaped part read) (n + 1) ds) (All P ds) (FailsFirst P ds) → OutcomeFrom part n (each_from (shaped part read) n (d ∷ ds)) (All P (d ∷ ds)) (FailsFirst P (d ∷ ds))
+    at : (o : Option A) → read d ≡ o → OutcomeFrom part (n + 1) (each_from (shaped part read) (n + 1) ds) (All P ds) (PartFails P ds) → OutcomeFrom part n (each_from (shaped part read) n (d ∷ ds)) (All P (d ∷ ds)) (PartFails P (d ∷ ds))
     at None is more =
         let same : n ≡ n + 0 = omega arith in
         failed_from 0 (rw is (ap (λ k. Err (Shape part k)) same)) (fails_here P d ds (λ p. let there = (t d).holds p in let bad = sym is ∙ there.1 in cc))
@@ -64,10 +67,10 @@ each_outcome_from {A = A} part read P t n (d ∷ ds) = at (read d) refl (each_ou
         let same : n + 1 + i ≡ n + suc i = omega arith in
         failed_from (suc i) (rw (is, e) (ap (λ k. Err (Shape part k)) same)) (fails_later P d ds i ((t d).read x is) first)
 
-each_outcome : {A : Type 0} (part : Part) (read : Data → Option A) (P : Data → Type 0) (ds : List Data) → ((d : Data) → Tells (read d) (P d)) → Outcome (Shape part) (each_shaped part read ds) (All P ds) (FailsFirst P ds)
+each_outcome : {A : Type 0} (part : Part) (read : Data → Option A) (P : Data → Type 0) (ds : List Data) → ((d : Data) → Tells (read d) (P d)) → Outcome (Shape part) (each_shaped part read ds) (All P ds) (PartFails P ds)
 each_outcome {A = A} part read P ds t = whole (each_outcome_from part read P t 0 ds)
   where
-    whole : OutcomeFrom part 0 (each_shaped part read ds) (All P ds) (FailsFirst P ds) → Outcome (Shape part) (each_shaped part read ds) (All P ds) (FailsFirst P ds)
+    whole : OutcomeFrom part 0 (each_shaped part read ds) (All P ds) (PartFails P ds) → Outcome (Shape part) (each_shaped part read ds) (All P ds) (PartFails P ds)
     whole (passed_from xs e all) = passed xs e all
     whole (failed_from i e first) = let same : 0 + i ≡ i = omega arith in failed i (e ∙ ap (λ k. Err (Shape part k)) same) first
 
@@ -104,11 +107,11 @@ or_none_is None ds e = same_Some _ _ e
 or_none_is (Some d) ds e = ap (λ o. unwrap_or o []) e
 
 -- the arrays that were read are those of the file
-record AreTheArrays (d : Data) (arrays : Arrays) : Type 0 where
-  events : graph_elements (codes "events") d ≡ arrays.events
-  relations : graph_elements (codes "relations") d ≡ arrays.relations
+pub record AreTheArrays (d : Data) (arrays : Arrays) : Type 0 where
+  pub events : graph_elements (codes "events") d ≡ arrays.events
+  pub relations : graph_elements (codes "relations") d ≡ arrays.relations
 
-graph_arrays : (d : Data) (arrays : Arrays) → graph_in d ≡ Some arrays → AreTheArrays d arrays
+pub graph_arrays : (d : Data) (arrays : Arrays) → graph_in d ≡ Some arrays → AreTheArrays d arrays
 unfolding graph_in
 graph_arrays d arrays e = option_and_then_some _ (get (codes "graph") d) arrays e (λ graph is e1.
     option_and_then_some _ (get (codes "events") graph) arrays e1 (λ member is1 e2.
@@ -119,34 +122,28 @@ graph_arrays d arrays e = option_and_then_some _ (get (codes "graph") d) arrays 
       relations = rw is (or_none_is (get (codes "relations") graph) relations is3 ∙ ap (λ (x : Arrays). x.relations) same);
     }))))
 
-cover_array : (d : Data) (cover : List Data) → cover_in d ≡ Some cover → elements_at (codes "cover") d ≡ cover
+pub cover_array : (d : Data) (cover : List Data) → cover_in d ≡ Some cover → elements_at (codes "cover") d ≡ cover
 unfolding cover_in
 cover_array d cover e = ap (λ o. unwrap_or o []) e
 
-sessions_array : (d : Data) (sessions : List Data) → sessions_in d ≡ Some sessions → elements_at (codes "sessions") d ≡ sessions
+pub sessions_array : (d : Data) (sessions : List Data) → sessions_in d ≡ Some sessions → elements_at (codes "sessions") d ≡ sessions
 unfolding sessions_in
 sessions_array d sessions e = or_none_is (get (codes "sessions") d) sessions e
 
 -- ---- one refusal alone
 
-first_holds : (P : Data → Type 0) (ds : List Data) (i : ℕ) (d : Data) → FailsFirst P ds i → All P ds → ⊥
-first_holds P ds i d first all = first.fails d (all i d first.below)
+first_holds : (P : Data → Type 0) (ds : List Data) (i : ℕ) → PartFails P ds i → All P ds → ⊥
+first_holds P ds i first all = first.fails (subst P (get_or_from_slice_get ds i first.element null first.at) (all i null (slice_get_within ds i first.element first.at)))
 
 not_both : (d : Data) (p : Part) (i : ℕ) → FailsAt d p i → Holds d p → ⊥
 not_both d part.Top i f h = f.1 h
 not_both d part.Graph i f h = f.1 h
-not_both d part.Event i f h = first_holds _ _ i null f h
-not_both d part.Relation i f h = first_holds _ _ i null f h
+not_both d part.Event i f h = first_holds _ _ i f h
+not_both d part.Relation i f h = first_holds _ _ i f h
 not_both d part.Cover i f h = f.1 h
-not_both d part.Site i f h = first_holds _ _ i null f h
+not_both d part.Site i f h = first_holds _ _ i f h
 not_both d part.Sessions i f h = f.1 h
-not_both d part.Session i f h = first_holds _ _ i null f h
-
-least_alone : (P : Data → Type 0) (ds : List Data) (i j : ℕ) → FailsFirst P ds i → FailsFirst P ds j → i ≡ j
-least_alone P ds i j a b = elim (cases_lt i j) [
-  | inl less ↦ absurd (a.fails null (b.passes i null less))
-  | inr not_less ↦ elim (cases_lt j i) [ inl more ↦ absurd (b.fails null (a.passes j null more)) | inr not_more ↦ omega arith ]
-]
+not_both d part.Session i f h = first_holds _ _ i f h
 
 both_none : (P : Type 0) (i j : ℕ) → (i ≡ 0) × P → (j ≡ 0) × P → i ≡ j
 both_none P i j a b = a.0 ∙ sym b.0
@@ -166,7 +163,7 @@ parts_ordered d = record { same_kind = same_rank; not_both = not_both d; one_way
 
 -- ---- the whole
 
-read_of : {A : Type 0} (o : Option A) (stop : ReadStop) (x : A) → ok_or o stop ≡ Ok x → o ≡ Some x
+pub read_of : {A : Type 0} (o : Option A) (stop : ReadStop) (x : A) → ok_or o stop ≡ Ok x → o ≡ Some x
 read_of None stop x e = absurd cc
 read_of (Some y) stop x e = ap Some (let same : y ≡ x = cc in same)
 
@@ -176,11 +173,11 @@ one_stage d p read f P t holding failing before next =
     stage rank Shape (Holds d) (FailsAt d) (parts_ordered d) p (shaped p read 0 d) f P (λ i. (i ≡ 0) × ¬ P) (one_outcome p read d P t) holding failing before (λ x e up. next x (read_of (read d) (Shape p 0) x e) up)
 
 each_stage : {A : Type 0} (d : Data) (p : Part) (read : Data → Option A) (f : List A → Result Written ReadStop) (P : Data → Type 0) (ds whole : List Data) → whole ≡ ds → ((e : Data) → Tells (read e) (P e))
-    → (All P whole → Holds d p) → ((i : ℕ) → FailsFirst P whole i → FailsAt d p i) → UpTo rank (Holds d) (rank p)
+    → (All P whole → Holds d p) → ((i : ℕ) → PartFails P whole i → FailsAt d p i) → UpTo rank (Holds d) (rank p)
     → ((xs : List A) → UpTo rank (Holds d) (rank p + 1) → Ends rank Shape (Holds d) (FailsAt d) (f xs)) → Ends rank Shape (Holds d) (FailsAt d) (after f (each_shaped p read ds))
 each_stage d p read f P ds whole same t holding failing before next =
-    stage rank Shape (Holds d) (FailsAt d) (parts_ordered d) p (each_shaped p read ds) f (All P ds) (FailsFirst P ds) (each_outcome p read P ds t) (λ all. holding (subst (All P) (sym same) all))
-    (λ i first. failing i (subst (λ (es : List Data). FailsFirst P es i) (sym same) first)) before (λ xs e up. next xs up)
+    stage rank Shape (Holds d) (FailsAt d) (parts_ordered d) p (each_shaped p read ds) f (All P ds) (PartFails P ds) (each_outcome p read P ds t) (λ all. holding (subst (All P) (sym same) all))
+    (λ i first. failing i (subst (λ (es : List Data). PartFails P es i) (sym same) first)) before (λ xs e up. next xs up)
 
 rank_below : (p : Part) → rank p < 8
 rank_below part.Top = omega arith

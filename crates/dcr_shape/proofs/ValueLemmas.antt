@@ -14,7 +14,7 @@ pub member_small : (r : Option (Bor Value)) (name : List ℕ) (d : Data) → opt
 member_small None name d e = tt
 member_small (Some v) name d e = size-get name d (view v.now) (sym e)
 
-listed-items_of : (ds : List Data) → listed (items_of ds) ≡ ds
+pub listed-items_of : (ds : List Data) → listed (items_of ds) ≡ ds
 listed-items_of [] = refl
 listed-items_of (d ∷ ds) = ap (λ xs. d ∷ xs) (listed-items_of ds)
 

@@ -8,4 +8,5 @@ pub mod Says
 pub mod Items
 pub mod Case
 pub mod Words
+pub mod Contents
 pub mod Laws

@@ -1,5 +1,17 @@
 -- Refusals in an order: the first that fails is the one that is given.
-use Rattle.std.specs.Prelude.{◌≡◌, ◌↔◌, ℕ, ◌<◌, Result, Ok, Err}
+use Rattle.std.specs.Prelude.{◌≡◌, ◌↔◌, ℕ, ◌<◌, List, Some, Result, Ok, Err}
+use Rattle.std.specs.List.{slice_get}
+
+-- each of a list passes, by its index
+abbrev pub EachAt : {A : Type 0} → (ℕ → A → Type 0) → List A → Type 0
+EachAt P xs = (i : ℕ) (x : _) → slice_get xs i ≡ Some x → P i x
+
+-- i is the least index of one that does not
+pub record FailsFirst {A : Type 0} (P : ℕ → A → Type 0) (xs : List A) (i : ℕ) : Type 0 where
+  pub element : A
+  pub at : slice_get xs i ≡ Some element
+  pub fails : ¬ P i element
+  pub earlier : (j : ℕ) (x : A) → j < i → slice_get xs j ≡ Some x → P j x
 
 -- k fails in the way i, and what comes before k holds
 pub record IsFirstToFail {K I : Type 0} (rank : K → ℕ) (Holds : K → Type 0) (Fails : K → I → Type 0) (k : K) (i : I) : Type 0 where

@@ -1,9 +1,10 @@
 -- The shape of a case file in the words of the format. A member that is null is there.
-use Rattle.std.specs.Prelude.{◌≡◌, ◌⊎◌, ℕ, ◌<◌, codes, List, [], Some, IsSome, unwrap_or, length, slice_index_or}
+use Rattle.std.specs.Prelude.{◌≡◌, ◌⊎◌, ℕ, codes, List, [], Some, IsSome, unwrap_or}
 use Rattle.std.specs.List.{All}
 use Rattle.serde_json.specs.Data.{Data, string, array, Items, no_items, item}
 use Rattle.serde_json.specs.Find.{get, as_array, as_bool, as_object, as_str}
 use Rattle.dcr_shape.specs.Members.{◌>>=◌, listed, elements}
+use Rattle.dcr_shape.specs.Order.{FailsFirst}
 use Rattle.dcr_shape.specs.declared.stop.Part.{Part}
 use Rattle.dcr_shape.specs.declared.stop.Part.TheVariants as part
 
@@ -104,19 +105,13 @@ Holds d part.Site = All IsSite (elements_at (codes "cover") d)
 Holds d part.Sessions = MayHaveMember (codes "sessions") IsArray d
 Holds d part.Session = All IsArrayOfTexts (elements_at (codes "sessions") d)
 
--- i is the least index at which it is not so
-pub record FailsFirst (P : Data → Type 0) (ds : List Data) (i : ℕ) : Type 0 where
-  pub below : i < length ds
-  pub fails : (d : Data) → ¬ P (slice_index_or ds i d)
-  pub passes : (j : ℕ) (d : Data) → j < i → P (slice_index_or ds j d)
-
 -- the part fails; of a part that comes several times, the one at i first
 abbrev pub FailsAt : Data → Part → ℕ → Type 0
 FailsAt d part.Top i = (i ≡ 0) × ¬ IsTop d
 FailsAt d part.Graph i = (i ≡ 0) × ¬ HasMember (codes "graph") IsGraph d
-FailsAt d part.Event i = FailsFirst IsEvent (graph_elements (codes "events") d) i
-FailsAt d part.Relation i = FailsFirst (IsRelation d) (graph_elements (codes "relations") d) i
+FailsAt d part.Event i = FailsFirst (λ _ part. IsEvent part) (graph_elements (codes "events") d) i
+FailsAt d part.Relation i = FailsFirst (λ _ part. IsRelation d part) (graph_elements (codes "relations") d) i
 FailsAt d part.Cover i = (i ≡ 0) × ¬ HasMember (codes "cover") IsArray d
-FailsAt d part.Site i = FailsFirst IsSite (elements_at (codes "cover") d) i
+FailsAt d part.Site i = FailsFirst (λ _ part. IsSite part) (elements_at (codes "cover") d) i
 FailsAt d part.Sessions i = (i ≡ 0) × ¬ MayHaveMember (codes "sessions") IsArray d
-FailsAt d part.Session i = FailsFirst IsArrayOfTexts (elements_at (codes "sessions") d) i
+FailsAt d part.Session i = FailsFirst (λ _ part. IsArrayOfTexts part) (elements_at (codes "sessions") d) i

@@ -14,7 +14,7 @@ mod version;
 mod written;
 
 pub use events::{WrittenEvent, WrittenEvents};
-pub use laws::shape_is_the_formats;
+pub use laws::{shape_is_the_formats, what_is_read_is_there};
 pub use relations::{WrittenRelation, WrittenRelations};
 pub use sessions::WrittenSessions;
 pub use sites::{WrittenSite, WrittenSites};
