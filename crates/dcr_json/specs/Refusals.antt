@@ -179,3 +179,7 @@ CasesAreTheFormats = (bytes : List ℕ) (spelled : Spelled) → (case_in bytes �
 -- one is given exactly where no refusal comes
 abbrev pub OneOfTheTwo : Type 0
 OneOfTheTwo = (bytes : List ℕ) → ((spelled : Spelled) × (case_in bytes ≡ Ok spelled)) ↔ ((stop : CaseStop) → ¬ Comes bytes stop)
+
+-- no bytes are refused so
+abbrev pub NeverRefuses : CaseStop → Type 0
+NeverRefuses stop = (bytes : List ℕ) → case_in bytes ≡ Err stop → ⊥

@@ -10,6 +10,10 @@ use Rattle.dcr_json.specs.declared.case.CaseStop.TheVariants.{Shape, Limit, Even
 abbrev pub Says : {A B : Type 0} → (A → B) → Result A CaseStop → Result B CaseStop → Type 0
 Says view result meant = MatchResult result (λ value. meant ≡ Ok (view value)) (λ stop. stop ≢ NoMemory → meant ≡ Err stop)
 
+-- The same of a step that takes no memory: it never gives up.
+abbrev pub SaysAlways : {A B : Type 0} → (A → B) → Result A CaseStop → Result B CaseStop → Type 0
+SaysAlways view result meant = MatchResult result (λ value. meant ≡ Ok (view value)) (λ stop. meant ≡ Err stop)
+
 -- what was found, or this refusal where nothing was
 abbrev pub found_or : {A : Type 0} → CaseStop → Option A → Result A CaseStop
 found_or stop None = Err stop

@@ -1,6 +1,6 @@
-ghost use Rattle.std.specs.Prelude.{◌≡◌, ◌<◌, ◌^◌, length};
+ghost use Rattle.std.specs.Prelude.{◌≡◌, ◌<◌, ◌≤◌, ◌^◌, [], length, vec_capacity};
 ghost use Rattle.dcr_json.specs.Judged.{session_told, sessions_told};
-ghost use Rattle.dcr_json.specs.Refusing.{Says};
+ghost use Rattle.dcr_json.specs.Refusing.{Says, SaysAlways};
 
 use crate::CaseStop;
 use dcr_graph::Graph;
@@ -10,7 +10,8 @@ use dcr_proj::Cover;
 use dcr_shape::{Texts, WrittenSessions};
 use std::alloc::Global;
 
-// The calls of each session, or the first that is none.
+// The calls of each session, or the first that is none. The memory for a session's calls is taken before its
+// first one is read.
 #[tactic(auto, unfolding(crate::specs::Judged::sessions_told))]
 pub(crate) fn read_sessions(
     alloc: Global,
@@ -23,30 +24,34 @@ pub(crate) fn read_sessions(
 {
     let mut read = Vec::new(alloc);
     for k in 0..sessions.len() {
-        let calls = read_calls(alloc, k as u32, &sessions.get(k), graph, cover)?;
+        let texts = sessions.get(k);
+        let room = Vec::with_capacity(alloc, texts.len())?;
+        let calls = read_calls(room, k as u32, &texts, graph, cover)?;
         read.push(CallList::new(calls))?;
     }
     Ok(read)
 }
 
-// The calls of session k, or the first that is none.
+// The calls of session k, or the first that is none. It takes no memory: there is room for all of them.
 fn read_calls(
-    alloc: Global,
+    room: Vec<Call>,
     k: u32,
     texts: &Texts<'_>,
     graph: &Graph,
     cover: &Cover,
 ) -> Result<Vec<Call>, CaseStop>
-    requires { length texts.now < 2 ^ 32 }
-    ensures { Says (λ calls. calls.items) result
+    requires few { length texts.now < 2 ^ 32 }
+    requires empty { room.items ≡ [] }
+    requires room { length texts.now ≤ vec_capacity room }
+    ensures { SaysAlways (λ calls. calls.items) result
         (session_told cover.now.names graph.now.names k texts.now) }
 {
-    let mut calls = Vec::new(alloc);
+    let mut calls = room;
     for j in 0..texts.len() {
         let Some(call) = read_call(texts.get(j).as_bytes(), graph, cover) else {
             return Err(CaseStop::CallLine { k, j: j as u32 });
         };
-        calls.push(call)?;
+        calls.push_reserved(call);
     }
     Ok(calls)
 }

@@ -69,7 +69,7 @@ pub enum CaseStop {
     /// Call j of session k is no call, or names a site or an event that there is not.
     #[error("no call")]
     CallLine { k: u32, j: u32 },
-    /// Memory was wanted and could not be had. It may come in the place of any other answer.
+    /// Memory was wanted and could not be had. It may come in the place of any other answer but `TooLong`.
     #[error("out of memory")]
     NoMemory,
 }

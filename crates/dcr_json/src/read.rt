@@ -1,9 +1,10 @@
-ghost use Rattle.std.specs.Prelude.{◌≤◌, IfOk};
+ghost use Rattle.std.specs.Prelude.{◌≡◌, ◌<◌, ◌≤◌, length, Err, IfOk, IfErr};
 ghost use Rattle.serde_json.specs.View.{view};
 ghost use Rattle.dcr_size.specs.Size.{size};
+ghost use Rattle.dcr_shape.specs.Case.{shape_in};
 ghost use Rattle.dcr_json.specs.Built.{case_of, IsCase};
 ghost use Rattle.dcr_json.specs.Case.{case_in, value_in};
-ghost use Rattle.dcr_json.specs.Refusing.{Says};
+ghost use Rattle.dcr_json.specs.Refusing.{Says, stop_of};
 
 use crate::judge::judge;
 use crate::{Case, CaseStop};
@@ -18,11 +19,12 @@ use std::alloc::Global;
 const MAX_BYTES: usize = 16_777_216;
 
 /// The case that the bytes of a file spell, or the first refusal that holds of them, as the definition says
-/// it, both ways. `NoMemory` may come in the place of any answer.
+/// it, both ways. `NoMemory` may come in the place of any answer but `TooLong`, which takes no memory.
 #[tactic(auto, unfolding(crate::specs::Case::case_in))]
 pub fn read_case(alloc: Global, bytes: &[u8]) -> Result<Case, CaseStop>
     ensures says { Says case_of result (case_in bytes.now) }
     ensures fits { IfOk result IsCase }
+    ensures too_long { 16777216 < length bytes.now → result ≡ Err CaseStop.TooLong }
 {
     if bytes.len() > MAX_BYTES {
         return Err(CaseStop::TooLong);
@@ -34,12 +36,13 @@ pub fn read_case(alloc: Global, bytes: &[u8]) -> Result<Case, CaseStop>
     Ok(case)
 }
 
-// The case that a value spells.
+// The case that a value spells. Its shape is tried without memory.
 #[tactic(auto, unfolding(crate::specs::Case::value_in))]
 fn read_value(alloc: Global, value: &Value) -> Result<Case, CaseStop>
     requires { size (view value.now) ≤ 16777216 }
     ensures says { Says case_of result (value_in (view value.now)) }
     ensures fits { IfOk result IsCase }
+    ensures misshapen { IfErr (shape_in (view value.now)) (λ why. result ≡ Err (stop_of why)) }
 {
     let written = read_shape(value)?;
     try_limits(alloc, &written)?;

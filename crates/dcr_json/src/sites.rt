@@ -34,10 +34,12 @@ pub(crate) fn read_cover(
     }
 }
 
-// The refusal of a cover, with the name of an atom that no site owns.
+// The refusal of a cover, with the name of an atom that no site owns. Memory is taken for such a name alone.
 fn refused_cover(alloc: Global, graph: &Graph, stop: CoverStop) -> CaseStop
     requires { (a : ℕ) → stop ≡ CoverStop.Uncovered a → a < length graph.now.names }
     ensures refused { result ≢ CaseStop.NoMemory → by_cover graph.now.names (Err stop) ≡ Err result }
+    ensures site_name { (i : ℕ) → stop ≡ CoverStop.SiteName i → result ≡ CaseStop.SiteName i }
+    ensures owned { (i j : ℕ) → stop ≡ CoverStop.Owned i j → result ≡ CaseStop.Owned i j }
     ensures no_memory { stop ≡ CoverStop.NoMemory → result ≡ CaseStop.NoMemory }
 {
     match stop {

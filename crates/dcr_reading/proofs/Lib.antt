@@ -1,4 +1,5 @@
 mod JsonLemmas
+mod MemoryLemmas
 mod StageLemmas
 mod NamedLemmas
 mod TextLemmas

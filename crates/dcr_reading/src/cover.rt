@@ -1,9 +1,10 @@
-ghost use Rattle.std.specs.Prelude.{◌≡◌, ◌≢◌, ◌<◌, ◌≤◌, ◌^◌, length, map, All, IfOk, IfSome, MatchBool};
+ghost use Rattle.std.specs.Prelude.{◌≡◌, ◌≢◌, ◌<◌, ◌≤◌, ◌^◌, length, map, None, Ok, All, IfOk, IfErr, IfSome, MatchBool};
 ghost use Rattle.serde_json.specs.View.{view};
 ghost use Rattle.dcr_nest.specs.FlatRelation.{IsFlattening};
 ghost use Rattle.dcr_proj.specs.CoverValue.{atoms_of};
 ghost use Rattle.dcr_cover.specs.Told.{cover_told};
 ghost use Rattle.dcr_canon.specs.CoverText.{cover_text};
+ghost use Rattle.dcr_shape.specs.Case.{shape_in};
 ghost use Rattle.dcr_size.specs.Size.{size};
 ghost use Rattle.dcr_reading.specs.Accepted.{IsCoverIn};
 ghost use Rattle.dcr_reading.specs.Found.{cover_found, told_found, written_in};
@@ -25,7 +26,7 @@ use std::alloc::Global;
 
 /// The cover of a nested graph, with this flattening, whose canonical text the bytes are. None exactly where they
 /// are the text of no cover that is accepted: one of 1 to 64 sites, whose names are names and distinct, and which
-/// own each atom. `NoMemory` where memory could not be had.
+/// own each atom. `NoMemory` where memory could not be had; none is taken for a text of more than 33,554,432 bytes.
 pub fn read_cover_text(
     alloc: Global,
     bytes: &[u8],
@@ -33,7 +34,8 @@ pub fn read_cover_text(
     graph: &Graph,
 ) -> Result<Option<Cover>, NoMemory>
     requires { IsFlattening nested.now graph.now }
-    ensures { IfOk result (λ found. IsCoverIn nested.now bytes.now found) }
+    ensures found { IfOk result (λ found. IsCoverIn nested.now bytes.now found) }
+    ensures too_long { 33554432 < length bytes.now → result ≡ Ok None }
 {
     canonical_texts_are_json();
     see_texts(nested.nodes());
@@ -65,6 +67,7 @@ fn read_cover(
     requires size { size (view file.now) < 2 ^ 32 }
     requires flat { IsFlattening nested.now graph.now }
     ensures cover { IfOk result (λ found. found ≡ told_found nested.now (written_in (view file.now))) }
+    ensures misshapen { IfErr (shape_in (view file.now)) (λ _. result ≡ Ok None) }
     ensures rooms { IfOk result (λ found. IfSome found (λ cover. All (λ set. length set ≡ length graph.now.names) cover.owned)) }
 {
     match read_written(alloc, file) {

@@ -1,6 +1,7 @@
-ghost use Rattle.std.specs.Prelude.{◌≡◌, ◌+◌, ◌<◌, ◌≤◌, ◌^◌, IfOk};
+ghost use Rattle.std.specs.Prelude.{◌≡◌, ◌+◌, ◌<◌, ◌≤◌, ◌^◌, Err, IfOk, IfErr};
 ghost use Rattle.serde_json.specs.View.{view};
 ghost use Rattle.dcr_size.specs.Size.{size};
+ghost use Rattle.dcr_shape.specs.Case.{shape_in};
 ghost use Rattle.dcr_shape.specs.Says.{Says};
 ghost use Rattle.dcr_reading.specs.File.{cover_file, graph_file, no_graph, one_site, version_text};
 ghost use Rattle.dcr_reading.specs.Found.{written_in};
@@ -72,11 +73,12 @@ fn no_graph(alloc: Global) -> Result<Value, NoMemory>
     Ok(Value::Object(members))
 }
 
-/// What is written in a case file within the limits, or its first refusal.
+/// What is written in a case file within the limits, or its first refusal. Its shape is tried without memory.
 #[tactic(auto, unfolding(crate::specs::Found::written_in))]
 pub(crate) fn read_written(alloc: Global, file: &Value) -> Result<Written<'_>, ReadStop>
     requires { size (view file.now) < 2 ^ 32 }
-    ensures { Says (λ written. written) result (written_in (view file.now)) }
+    ensures says { Says (λ written. written) result (written_in (view file.now)) }
+    ensures misshapen { IfErr (shape_in (view file.now)) (λ why. result ≡ Err why) }
 {
     let written = read_shape(file)?;
     try_limits(alloc, &written)?;

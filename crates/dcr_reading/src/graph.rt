@@ -1,8 +1,9 @@
-ghost use Rattle.std.specs.Prelude.{◌≡◌, ◌≢◌, ◌<◌, ◌^◌, None, IfOk, MatchBool};
+ghost use Rattle.std.specs.Prelude.{◌≡◌, ◌≢◌, ◌<◌, ◌^◌, length, None, Ok, Err, IfOk, IfErr, MatchBool};
 ghost use Rattle.serde_json.specs.View.{view};
 ghost use Rattle.dcr_graph.specs.Pairs.{first_clash};
 ghost use Rattle.dcr_nest.specs.FlatRelation.{flat_relation};
 ghost use Rattle.dcr_canon.specs.GraphText.{graph_text};
+ghost use Rattle.dcr_shape.specs.Case.{shape_in};
 ghost use Rattle.dcr_shape.specs.Says.{Says};
 ghost use Rattle.dcr_size.specs.Size.{size};
 ghost use Rattle.dcr_reading.specs.Accepted.{IsGraphIn};
@@ -23,13 +24,14 @@ use std::alloc::Global;
 /// The nested graph of this version whose canonical text the bytes are. None exactly where they are the text of
 /// no graph that is accepted: one within the limits, whose names are names and distinct, whose parents stand
 /// earlier, whose relations are of the version's kinds, and which has no clash. `NoMemory` where memory could
-/// not be had.
+/// not be had; none is taken for a text of more than 33,554,432 bytes.
 pub fn read_graph_text(
     alloc: Global,
     bytes: &[u8],
     version: Version,
 ) -> Result<Option<Nested>, NoMemory>
-    ensures { IfOk result (λ found. IsGraphIn version bytes.now found) }
+    ensures found { IfOk result (λ found. IsGraphIn version bytes.now found) }
+    ensures too_long { 33554432 < length bytes.now → result ≡ Ok None }
 {
     canonical_texts_are_json();
     if bytes.len() > MAX_BYTES {
@@ -55,7 +57,8 @@ pub fn read_graph_text(
 // The nested graph of a case file. None exactly where the file is refused for its shape, its limits or its nodes.
 fn read_nested(alloc: Global, file: &Value) -> Result<Option<Nested>, NoMemory>
     requires { size (view file.now) < 2 ^ 32 }
-    ensures { IfOk result (λ found. found ≡ nested_found (nodes_of (view file.now))) }
+    ensures found { IfOk result (λ found. found ≡ nested_found (nodes_of (view file.now))) }
+    ensures misshapen { IfErr (shape_in (view file.now)) (λ _. result ≡ Ok None) }
 {
     match read_file(alloc, file) {
         Ok(nodes) => Ok(Some(nodes.nested)),
@@ -68,7 +71,8 @@ fn read_nested(alloc: Global, file: &Value) -> Result<Option<Nested>, NoMemory>
 #[tactic(auto, unfolding(crate::specs::Found::nodes_of))]
 fn read_file(alloc: Global, file: &Value) -> Result<Nodes, ReadStop>
     requires { size (view file.now) < 2 ^ 32 }
-    ensures { Says (λ nodes. nodes) result (nodes_of (view file.now)) }
+    ensures says { Says (λ nodes. nodes) result (nodes_of (view file.now)) }
+    ensures misshapen { IfErr (shape_in (view file.now)) (λ why. result ≡ Err why) }
 {
     let written = read_written(alloc, file)?;
     let nodes = read_nodes(alloc, &written)?;

@@ -1,5 +1,5 @@
 -- The four lines before the entries.
-use Rattle.std.specs.Prelude.{◌≡◌, ℕ, List, length, drop, codes, nat_eq, Option, Some, None, option_map, option_and_then, slice_get, MatchOption, if◌then◌else◌}
+use Rattle.std.specs.Prelude.{◌≡◌, ◌<◌, ⊤, ℕ, List, length, drop, codes, nat_eq, Option, Some, None, option_map, option_and_then, slice_get, MatchOption, if◌then◌else◌}
 use Rattle.std.specs.List.{starts_with}
 use Rattle.std.specs.Str.{bytes_eq}
 use Rattle.dcr_graph.specs.declared.marking.Marking.{Marking}
@@ -33,6 +33,10 @@ version_of text =
 -- the version that the first line tells
 abbrev pub version_at : List Line → Option Version
 version_at lines = option_and_then version_of (first_text lines)
+
+-- behind the word the first line tells no text, or one that is longer than each canonical text
+abbrev pub TellsNoText : List ℕ → List Line → Type 0
+TellsNoText word lines = MatchOption (first_behind word lines) ⊤ (λ text. 33554432 < length text)
 
 -- the graph of this version that the first line tells, where it tells one
 abbrev pub IsGraphAt : Version → List Line → Option Nest → Type 0

@@ -1,9 +1,13 @@
-ghost use Rattle.std.specs.Prelude.{◌≡◌, [], length, IfOk, None};
+ghost use Rattle.std.specs.Prelude.{◌≡◌, [], codes, drop, length, IfOk, None, Some, Ok};
 ghost use Rattle.std.specs.List.{All};
 ghost use Rattle.dcr_graph.specs.GraphValue.{rules_of};
 ghost use Rattle.dcr_graph.specs.Pairs.{first_clash};
 ghost use Rattle.dcr_graph.specs.Projection.{HasRoom};
 ghost use Rattle.dcr_nest.specs.FlatRelation.{IsFlattening, flat_relation};
+ghost use Rattle.dcr_replay.specs.Cut.{lines_of};
+ghost use Rattle.dcr_replay.specs.HeadLines.{TellsNoText, opening_at, version_at};
+ghost use Rattle.dcr_replay.specs.declared.verdict.Verdict.TheVariants.{Invalid};
+ghost use Rattle.dcr_replay.specs.declared.verdict.Wrong.TheVariants as wrong;
 ghost use Rattle.dcr_replay.specs.FirstWrong.{IsVerdict, FromGraph, FromCover, from_opening, run_from, setting};
 ghost use Rattle.dcr_proj.specs.CoverValue.{IsCover};
 
@@ -20,9 +24,13 @@ use std::alloc::Global;
 
 /// Whether the text is the report of a legal history: valid with the number of its entries, or the first line
 /// that is wrong, counted from 1, with the kind of what is expected there. The history is checked by the plain
-/// engine of the whole graph. `NoMemory` where memory could not be had.
+/// engine of the whole graph. `NoMemory` where memory could not be had; a wrong first line takes none, nor does a
+/// second one that tells no text of a graph, or a longer one than each canonical text.
 pub fn check_report(alloc: Global, bytes: &[u8]) -> Result<Verdict, NoMemory>
-    ensures { IfOk result (λ verdict. IsVerdict bytes.now verdict) }
+    ensures verdict { IfOk result (λ verdict. IsVerdict bytes.now verdict) }
+    ensures head { version_at (lines_of bytes.now) ≡ None → result ≡ Ok (Invalid 1 wrong.Head) }
+    ensures no_text { (version : Version) → version_at (lines_of bytes.now) ≡ Some version
+        → TellsNoText (codes "graph ") (drop 1 (lines_of bytes.now)) → result ≡ Ok (Invalid 2 wrong.Graph) }
 {
     let mut lines = Lines::of(bytes);
     let Some(version) = read_version(&lines) else {
@@ -37,7 +45,8 @@ pub fn check_report(alloc: Global, bytes: &[u8]) -> Result<Verdict, NoMemory>
 
 // The verdict from the line of the graph on.
 fn check_graph(alloc: Global, version: Version, lines: &mut Lines<'_>) -> Result<Verdict, NoMemory>
-    ensures { IfOk result (λ verdict. FromGraph version lines.old verdict) }
+    ensures verdict { IfOk result (λ verdict. FromGraph version lines.old verdict) }
+    ensures no_text { TellsNoText (codes "graph ") lines.old → result ≡ Ok (Invalid 2 wrong.Graph) }
 {
     let Some(nested) = read_graph(alloc, lines, version)? else {
         return Ok(Verdict::Invalid {
@@ -70,7 +79,8 @@ fn check_cover(
     lines: &mut Lines<'_>,
 ) -> Result<Verdict, NoMemory>
     requires { IsFlattening nested.now graph.now }
-    ensures { IfOk result (λ verdict. FromCover nested.now lines.old verdict) }
+    ensures verdict { IfOk result (λ verdict. FromCover nested.now lines.old verdict) }
+    ensures no_text { TellsNoText (codes "cover ") lines.old → result ≡ Ok (Invalid 3 wrong.Cover) }
 {
     let Some(cover) = read_cover(alloc, lines, nested, graph)? else {
         return Ok(Verdict::Invalid {
@@ -91,7 +101,8 @@ fn check_opening(
 ) -> Result<Verdict, NoMemory>
     requires rooms { All (λ set. length set ≡ length graph.now.names) cover.now.owned }
     requires cover { IsCover cover.now }
-    ensures { IfOk result (λ verdict. verdict ≡ from_opening (rules_of graph.now) graph.now.names cover.now lines.old) }
+    ensures verdict { IfOk result (λ verdict. verdict ≡ from_opening (rules_of graph.now) graph.now.names cover.now lines.old) }
+    ensures no_marking { opening_at graph.now.names lines.old ≡ None → result ≡ Ok (Invalid 4 wrong.Opening) }
 {
     let Some(opening) = read_opening(lines, graph) else {
         return Ok(Verdict::Invalid {

@@ -1,5 +1,5 @@
 // The lines of entries, checked one after the other.
-ghost use Rattle.std.specs.Prelude.{◌≡◌, ◌+◌, ◌<◌, ◌≤◌, ◌&&◌, [], ◌∷◌, ◌++◌, List, length, IfOk, IfSome, Bool, false, slice_index_or};
+ghost use Rattle.std.specs.Prelude.{◌≡◌, ◌+◌, ◌<◌, ◌≤◌, ◌&&◌, [], ◌∷◌, ◌++◌, List, length, IfOk, IfSome, Bool, false, slice_index_or, None, Some, Ok};
 ghost use Rattle.std.specs.List.{All};
 ghost use Rattle.dcr_graph.specs.GraphValue.{rules_of};
 ghost use Rattle.dcr_graph.specs.Projection.{HasRoom};
@@ -11,6 +11,7 @@ ghost use Rattle.dcr_replay.specs.EntryLines.{Setting, is_done, is_faulted, entr
 ghost use Rattle.dcr_replay.specs.FirstWrong.{setting};
 ghost use Rattle.dcr_replay.specs.Stands.{IsSound, Stands, Takes};
 ghost use Rattle.dcr_proj.specs.CoverValue.{IsCover};
+ghost use Rattle.dcr_replay.specs.declared.verdict.Wrong.TheVariants as wrong;
 
 use crate::answer::answer;
 use crate::lines::Line;
@@ -74,13 +75,15 @@ impl<'g> Run<'g> {
     }
 
     /// Takes the entry that a line tells. Where the answer is a kind, the line is wrong by it, and nothing was
-    /// taken.
+    /// taken. A line that tells no entry which may come next is refused without memory.
     pub(crate) fn take(&mut self, alloc: Global, line: Line<'_>) -> Result<Option<Wrong>, NoMemory>
         requires { IsSound self.old }
         ensures sound { IsSound self.new }
         ensures taken { IfOk result (λ wrong. (S : Setting) (J : List Entry) → Stands S J self.old
             → Takes S J (line_of line.entry.text.now line.entry.ended) wrong self.new) }
         ensures kept { IfOk result (λ wrong. IfSome wrong (λ _. self.new ≡ self.old)) }
+        ensures no_entry { (S : Setting) (J : List Entry) → Stands S J self.old
+            → entry_after S J (line_of line.entry.text.now line.entry.ended) ≡ None → result ≡ Ok (Some wrong.Entry) }
     {
         let Some(entry) = self.next_entry(line) else {
             return Ok(Some(Wrong::Entry));

@@ -1,8 +1,8 @@
 // The four lines before the entries.
-ghost use Rattle.std.specs.Prelude.{◌≡◌, length, option_map, IfOk, IfSome};
+ghost use Rattle.std.specs.Prelude.{◌≡◌, codes, length, option_map, None, Ok, IfOk, IfSome};
 ghost use Rattle.dcr_graph.specs.Projection.{HasRoom};
 ghost use Rattle.dcr_nest.specs.FlatRelation.{IsFlattening};
-ghost use Rattle.dcr_replay.specs.HeadLines.{first_text, first_behind, version_at, IsGraphAt, IsCoverAt, opening_at};
+ghost use Rattle.dcr_replay.specs.HeadLines.{first_text, first_behind, version_at, IsGraphAt, IsCoverAt, TellsNoText, opening_at};
 
 use crate::lines::{Lines, behind};
 use dcr_graph::{Graph, Marking};
@@ -27,13 +27,15 @@ pub(crate) fn read_version(lines: &Lines<'_>) -> Option<Version>
     None
 }
 
-/// The graph of this version that the first line tells. None exactly where it tells none that is accepted.
+/// The graph of this version that the first line tells. None exactly where it tells none that is accepted. A line that
+/// tells no text, or a longer one than each canonical text, is refused without memory.
 pub(crate) fn read_graph(
     alloc: Global,
     lines: &Lines<'_>,
     version: Version,
 ) -> Result<Option<Nested>, NoMemory>
-    ensures { IfOk result (λ found. IsGraphAt version lines.now found) }
+    ensures found { IfOk result (λ found. IsGraphAt version lines.now found) }
+    ensures no_text { TellsNoText (codes "graph ") lines.now → result ≡ Ok None }
 {
     let Some(text) = first_behind(lines, b"graph ") else {
         return Ok(None);
@@ -41,7 +43,8 @@ pub(crate) fn read_graph(
     read_graph_text(alloc, text, version)
 }
 
-/// The cover of the graph that the first line tells. None exactly where it tells none that is accepted.
+/// The cover of the graph that the first line tells. None exactly where it tells none that is accepted, without memory
+/// as for a graph.
 pub(crate) fn read_cover(
     alloc: Global,
     lines: &Lines<'_>,
@@ -49,7 +52,8 @@ pub(crate) fn read_cover(
     graph: &Graph,
 ) -> Result<Option<Cover>, NoMemory>
     requires { IsFlattening nested.now graph.now }
-    ensures { IfOk result (λ found. IsCoverAt nested.now lines.now found) }
+    ensures found { IfOk result (λ found. IsCoverAt nested.now lines.now found) }
+    ensures no_text { TellsNoText (codes "cover ") lines.now → result ≡ Ok None }
 {
     let Some(text) = first_behind(lines, b"cover ") else {
         return Ok(None);

@@ -6,6 +6,8 @@ mod causes;
 #[cfg(test)]
 mod effects;
 #[cfg(test)]
+mod far;
+#[cfg(test)]
 mod faults;
 #[cfg(test)]
 mod limits;

@@ -10,20 +10,20 @@ use Rattle.dcr_reading.proofs.CoverNoneLemmas.{none_long, none_json, none_file, 
 use Rattle.dcr_reading.proofs.StageLemmas.{told_no, told_yes}
 use Rattle.dcr_reading.proofs.cover.read_cover_text.Goals as goal
 
-pub returns-then-bytes-gt-MAX_BYTES : goal.returns-then-bytes-gt-MAX_BYTES
-returns-then-bytes-gt-MAX_BYTES c =
+pub returns-then-bytes-gt-MAX_BYTES-clause-found : goal.returns-then-bytes-gt-MAX_BYTES-clause-found
+returns-then-bytes-gt-MAX_BYTES-clause-found c =
     let N = c.args.nested.now in
     let names = atom_names_are N (subst (λ nodes. AreAllNames (names_of nodes)) c.nodes.ensures.nodes c.see_texts.ensures.names) in
     none_long c.canonical_texts_are_json.ensures N c.nodes.ensures.nested names c.args.bytes.now c.if-bytes-gt-MAX_BYTES.true
 
-pub returns-in_default : goal.returns-in_default
-returns-in_default c =
+pub returns-in_default-clause-found : goal.returns-in_default-clause-found
+returns-in_default-clause-found c =
     let N = c.args.nested.now in
     let names = atom_names_are N (subst (λ nodes. AreAllNames (names_of nodes)) c.nodes.ensures.nodes c.see_texts.ensures.names) in
     none_json c.canonical_texts_are_json.ensures N c.nodes.ensures.nested names c.args.bytes.now (ap (option_map view) (sym c.in_default.is) ∙ c.in_ok-value.ensures.json)
 
-pub returns-in_default-2 : goal.returns-in_default-2
-returns-in_default-2 c =
+pub returns-in_default-2-clause-found : goal.returns-in_default-2-clause-found
+returns-in_default-2-clause-found c =
     let N = c.args.nested.now in
     let names = atom_names_are N (subst (λ nodes. AreAllNames (names_of nodes)) c.nodes.ensures.nodes c.see_texts.ensures.names) in
     none_file c.canonical_texts_are_json.ensures N c.nodes.ensures.nested names c.args.bytes.now (record {
@@ -34,8 +34,8 @@ returns-in_default-2 c =
       is = sym c.in_default-2.is ∙ c.in_ok-cover.ensures.cover;
     })
 
-pub returns-then-not-branch : goal.returns-then-not-branch
-returns-then-not-branch c =
+pub returns-then-not-branch-clause-found : goal.returns-then-not-branch-clause-found
+returns-then-not-branch-clause-found c =
     let N = c.args.nested.now in
     let names = atom_names_are N (subst (λ nodes. AreAllNames (names_of nodes)) c.nodes.ensures.nodes c.see_texts.ensures.names) in
     let differ = told_no (c.args.bytes.now ≡ cover_text c.args.graph.now.names c.in-Some-2.cover) (c.args.bytes.now ≢ cover_text c.args.graph.now.names c.in-Some-2.cover)
@@ -52,8 +52,8 @@ pub see_cover-requires-clause-rooms : goal.see_cover-requires-clause-rooms
 see_cover-requires-clause-rooms c =
     subst (λ (found : Option Owners). IfSome found (λ C. All (λ set. length set ≡ length c.args.graph.now.names) C.owned)) c.in-Some-2.is c.in_ok-cover.ensures.rooms
 
-pub returns : goal.returns
-returns c =
+pub returns-clause-found : goal.returns-clause-found
+returns-clause-found c =
     let cover = c.in-Some-2.cover in
     let same = told_yes (c.args.bytes.now ≡ cover_text c.args.graph.now.names cover) (c.args.bytes.now ≢ cover_text c.args.graph.now.names cover)
     c.in_ok-is_cover_text.field-0 c.in_ok-is_cover_text.ensures c.if-not-branch.false in
