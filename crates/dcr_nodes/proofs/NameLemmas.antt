@@ -1,23 +1,21 @@
--- Names by their numbers: in an index, before an event, and in the words of the format.
-use Rattle.std.proofs.Common.{◌≡◌, ℕ, suc, ◌+◌, ◌<◌, ◌≤◌, Bool, true, false, cond, ◌||◌, List, [], ◌∷◌, ◌++◌, length, get_or, take, map, Option, Some, None, is_none, Ok, Err, refl, sym, ap, ◌∙◌, arith}
+-- Names by their numbers: before an event, and in the words of the format.
+use Rattle.std.proofs.Common.{◌≡◌, ℕ, suc, ◌<◌, ◌≤◌, Bool, true, false, ◌||◌, List, [], ◌∷◌, length, get_or, take, Option, Some, None, is_none, Ok, Err, refl, sym, ap, ◌∙◌, arith}
 use Rattle.std.specs.List.{list_any, slice_get}
 use Rattle.std.specs.Option.{option_map_or}
 use Rattle.std.specs.Str.{bytes_eq}
-use Rattle.std.proofs.lemmas.Cmp.{nat_list_eq_equiv}
-use Rattle.std.proofs.lemmas.List.{get_or-map, get_or-take, length-map, length-take, map_push, take_more}
+use Rattle.std.proofs.lemmas.List.{get_or-map, get_or-take, length-map, length-take}
 use Rattle.std.proofs.lemmas.List.Folds.{list_any_at}
 use Rattle.std.proofs.lemmas.Option.{get_or_from_slice_get, slice_get-get_or, slice_get_within}
 use Rattle.std.proofs.lemmas.Slice.Eq.{bytes_eq-Decides}
 use Rattle.dcr_set.proofs.LeastLemmas.{least-from, least-none_from, least-some, least-none}
 use Rattle.dcr_graph.specs.Names.{is_name, number_of}
-use Rattle.indexmap.specs.IndexSet.{insert_key}
 use Rattle.dcr_shape.specs.Parts.{Event, no_event}
 use Rattle.dcr_limit.specs.Limits.{names_parent}
 use Rattle.dcr_shape.specs.declared.stop.ReadStop.TheVariants.{EventName}
 use Rattle.dcr_nodes.specs.Nodes.{names_of, number_before, name_in}
 use Rattle.dcr_nodes.specs.Words.{IsEarlierName, IsEventName, IsParentName}
 
--- ---- an index
+-- ---- tests
 
 any_false : {K : Type 0} (p : K → Bool) (keys : List K) → list_any p keys ≡ false → (k : ℕ) (d : K) → k < length keys → p (get_or keys k d) ≡ false
 any_false p keys none k d l = at (p (get_or keys k d)) refl
@@ -34,38 +32,6 @@ any_true {K = K} p (x ∷ xs) e = at (p x) refl (any_true p xs)
     at : (b : Bool) → p x ≡ b → (list_any p xs ≡ true → (k : ℕ) × (k < length xs) × ((d : K) → p (get_or xs k d) ≡ true)) → (k : ℕ) × (k < length (x ∷ xs)) × ((d : K) → p (get_or (x ∷ xs) k d) ≡ true)
     at true is rest = (0, omega arith, λ d. is)
     at false is rest = let more = rest (sym (ap (λ b. b || list_any p xs) is) ∙ e) in (suc more.0, (let l = more.1 in omega arith), more.2)
-
--- what a key spells, by its number
-key_at : {K : Type 0} (see : K → List ℕ) (keys : List K) (text : List ℕ) (k : ℕ) (d : K) → k < length keys → bytes_eq (get_or (map see keys) k []) text ≡ bytes_eq text (see (get_or keys k d))
-key_at see keys text k d l = nat_list_eq_equiv.symm (get_or (map see keys) k []) text ∙ ap (bytes_eq text) (get_or-map see keys k d [] l)
-
--- a text is none of the names where none of the keys is it
-pub absent_is : {K : Type 0} (see : K → List ℕ) (keys : List K) (text : List ℕ) → list_any (λ k. bytes_eq text (see k)) keys ≡ false → number_of (map see keys) text ≡ None
-absent_is see [] text absent = least-none_from 0 (λ k. bytes_eq (get_or {A = List ℕ} [] k []) text) (λ j l. absurd (omega arith))
-absent_is see (x ∷ xs) text absent =
-    least-none_from (length (map see (x ∷ xs))) (λ k. bytes_eq (get_or (map see (x ∷ xs)) k []) text) (λ k l.
-    let within : k < length (x ∷ xs) = omega (arith, length-map (x ∷ xs) see) in
-    key_at see (x ∷ xs) text k x within ∙ any_false (λ y. bytes_eq text (see y)) (x ∷ xs) absent k x within)
-
--- and one of them where one is
-pub present_is : {K : Type 0} (see : K → List ℕ) (keys : List K) (text : List ℕ) → list_any (λ k. bytes_eq text (see k)) keys ≡ true → is_none (number_of (map see keys) text) ≡ false
-present_is see [] text present = absurd cc
-present_is see (x ∷ xs) text present = at (number_of (map see (x ∷ xs)) text) refl
-  where
-    at : (o : Option ℕ) → number_of (map see (x ∷ xs)) text ≡ o → is_none (number_of (map see (x ∷ xs)) text) ≡ false
-    at (Some k) e = ap is_none e
-    at None e =
-        let found = any_true (λ y. bytes_eq text (see y)) (x ∷ xs) present in
-        let l = found.1 in
-        let never = least-none (length (map see (x ∷ xs))) (λ k. bytes_eq (get_or (map see (x ∷ xs)) k []) text) e found.0 (omega (arith, length-map (x ∷ xs) see)) in
-        absurd (let bad = sym (found.2 x) ∙ (sym (key_at see (x ∷ xs) text found.0 x l) ∙ never) in cc)
-
--- a new key goes last
-pub names_more : {K : Type 0} (see : K → List ℕ) (eq : K → K → Bool) (keys more : List K) (key : K) (names : List (List ℕ)) (i : ℕ)
-    → list_any (eq key) keys ≡ false → i < length names → map see keys ≡ take i names → see key ≡ get_or names i [] → more ≡ insert_key eq keys key → map see more ≡ take (i + 1) names
-names_more see eq keys more key names i absent within before here inserted =
-    ap (map see) inserted ∙ ap (λ t. map see (cond t keys (keys ++ key ∷ []))) absent ∙ map_push see keys key
-    ∙ ap (λ ns. ns ++ see key ∷ []) before ∙ ap (λ n. take i names ++ n ∷ []) here ∙ sym (take_more names i [] within)
 
 -- ---- before an event
 

@@ -3,4 +3,3 @@ pub mod Kinds
 pub mod Opening
 pub mod Words
 pub mod Laws
-pub mod NamesModel

@@ -1,58 +1,22 @@
-ghost use Rattle.std.specs.Prelude.{◌≡◌, ◌≢◌, ◌≤◌, ◌<◌, true, false, length, IfOk, IfErr, OnOk};
-ghost use Rattle.dcr_graph.specs.Names.{is_name};
+ghost use Rattle.std.specs.Prelude.{◌≡◌, ◌≤◌, ◌<◌, Err, length, map, IfOk, IfErr};
+ghost use Rattle.dcr_shape.specs.Items.{event_of};
 ghost use Rattle.dcr_shape.specs.Says.{Says};
 ghost use Rattle.dcr_shape.specs.declared.stop.ReadStop.TheVariants.{EventName, NoMemory};
-ghost use Rattle.dcr_nodes.specs.Nodes.{names_in, names_of};
+ghost use Rattle.dcr_nodes.specs.Nodes.{name_in, names_in, names_of, number_before};
 
-use dcr_graph::{Name, NameStop};
-use dcr_shape::{ReadStop, WrittenEvents};
-use indexmap::IndexSet;
+use dcr_graph::{Name, NameIndex, NameStop};
+use dcr_shape::{ReadStop, WrittenEvent, WrittenEvents};
 use std::alloc::Global;
-use std::marker::Model;
 
-/// The names of the events, so that one is found without a walk over all of them. Contracts see them in order.
-#[derive(Drop)]
-pub(crate) struct Names<'v> {
-    texts: IndexSet<&'v str>,
-}
-
-impl<'v> Model for Names<'v> {
-    ghost use Rattle.std.specs.Prelude.{List, ℕ};
-
-    ghost Value = { List (List ℕ) };
-
-    ghost use Rattle.dcr_nodes.specs.NamesModel.{names_listed, FitsNodes};
-
-    ghost view = { names_listed };
-
-    ghost invariant = { FitsNodes };
-}
-
-impl<'v> Names<'v> {
-    ghost use Rattle.std.specs.Prelude.{◌≡◌, ◌≤◌, take};
-    ghost use Rattle.dcr_graph.specs.Names.{number_of};
-    ghost use Rattle.dcr_nodes.specs.Nodes.{number_before};
-
-    /// The event with this name. None exactly where no event has it.
-    pub(crate) fn find(&self, text: &str) -> Option<u16>
-        ensures { result ≡ number_of self.now text.now }
-    {
-        let Some(place) = self.texts.get_index_of(text) else {
-            return None;
-        };
-        Some(place as u16)
-    }
-
-    /// The event before event `i` with this name. None exactly where no earlier event has it.
-    pub(crate) fn find_before(&self, i: usize, text: &str) -> Option<u16>
-        ensures { result ≡ number_before self.now i text.now }
-    {
-        let number = self.find(text)?;
-        if usize::from(number) < i {
-            Some(number)
-        } else {
-            None
-        }
+/// The event before event `i` with this name. None exactly where no earlier event has it.
+pub(crate) fn find_before(names: &NameIndex<'_>, i: usize, text: &str) -> Option<u16>
+    ensures { result ≡ number_before names.now i text.now }
+{
+    let number = names.find(text.as_bytes())?;
+    if usize::from(number) < i {
+        Some(number)
+    } else {
+        None
     }
 }
 
@@ -60,35 +24,61 @@ impl<'v> Names<'v> {
 pub(crate) fn read_names<'v>(
     alloc: Global,
     events: &WrittenEvents<'v>,
-) -> Result<(Names<'v>, Vec<Name>), ReadStop>
+) -> Result<(NameIndex<'v>, Vec<Name>), ReadStop>
     requires { length events.now ≤ 2048 }
     ensures index { IfOk result (λ read. read.0 ≡ names_of events.now) }
     ensures names { IfOk result (λ read. read.1.items ≡ names_of events.now) }
     ensures says { Says (λ read. read.1.items) result (names_in events.now) }
 {
-    let mut texts = IndexSet::new(alloc);
+    let index = index_names(alloc, events)?;
     let mut names = Vec::with_capacity(alloc, events.len())?;
     for i in 0..events.len() {
-        let text = events.get(i).name;
-        let name = read_name(alloc, i, text)?;
-        let is_new = texts.insert(text)?;
-        if !is_new {
-            return Err(ReadStop::EventName { i: i as u32 });
-        }
+        let name = read_name(alloc, &index, i, events.get(i))?;
         names.push(name)?;
     }
-    Ok((Names { texts }, names))
+    Ok((index, names))
 }
 
-// The name of event `i`.
-fn read_name(alloc: Global, i: usize, text: &str) -> Result<Name, ReadStop>
-    requires { i < 2048 }
-    ensures name { IfOk result (λ name. name ≡ text.now) }
-    ensures spelled { OnOk result (is_name text.now ≡ true) }
-    ensures refused { IfErr result (λ stop. stop ≢ NoMemory → (stop ≡ EventName i) × (is_name text.now ≡ false)) }
-    ensures no_name { is_name text.now ≡ false → result ≡ Err (EventName i) }
+// The texts that stand as names, also where they are none.
+fn index_names<'v>(alloc: Global, events: &WrittenEvents<'v>) -> Result<NameIndex<'v>, ReadStop>
+    requires { length events.now ≤ 2048 }
+    ensures index { IfOk result (λ index. index ≡ names_of events.now) }
+    ensures memory { IfErr result (λ stop. stop ≡ NoMemory) }
 {
-    match Name::read(alloc, text) {
+    match NameIndex::new(alloc, name_texts(alloc, events)?) {
+        Ok(index) => Ok(index),
+        Err(_) => Err(ReadStop::NoMemory),
+    }
+}
+
+// The texts that stand as names, in order.
+fn name_texts<'v>(alloc: Global, events: &WrittenEvents<'v>) -> Result<Vec<&'v [u8]>, ReadStop>
+    ensures texts { IfOk result (λ texts. map (λ text. text.now) texts.items ≡ names_of events.now) }
+    ensures memory { IfErr result (λ stop. stop ≡ NoMemory) }
+{
+    let mut texts = Vec::with_capacity(alloc, events.len())?;
+    for i in 0..events.len() {
+        texts.push(events.get(i).name.as_bytes())?;
+    }
+    Ok(texts)
+}
+
+// The name of event `i`. Memory is taken only once nothing is wrong with it, so that want of memory never stands
+// for a refusal.
+fn read_name(
+    alloc: Global,
+    names: &NameIndex<'_>,
+    i: usize,
+    event: WrittenEvent<'_>,
+) -> Result<Name, ReadStop>
+    requires { i < 2048 }
+    ensures says { Says (λ name. name) result (name_in names.now i (event_of event.entry)) }
+    ensures refused { name_in names.now i (event_of event.entry) ≡ Err (EventName i) → result ≡ Err (EventName i) }
+{
+    if find_before(names, i, event.name).is_some() {
+        return Err(ReadStop::EventName { i: i as u32 });
+    }
+    match Name::read(alloc, event.name) {
         Ok(name) => Ok(name),
         Err(NameStop::NotName) => Err(ReadStop::EventName { i: i as u32 }),
         Err(NameStop::NoMemory) => Err(ReadStop::NoMemory),

@@ -3,15 +3,14 @@ ghost use Rattle.dcr_shape.specs.Items.{relation_of};
 ghost use Rattle.dcr_shape.specs.Says.{Says};
 ghost use Rattle.dcr_nodes.specs.Nodes.{end_in, pair_in, relations_in};
 
-use crate::names::Names;
-use dcr_graph::Kind;
+use dcr_graph::{Kind, NameIndex};
 use dcr_shape::{ReadStop, WrittenRelation, WrittenRelations};
 use std::alloc::Global;
 
 // The relations between the nodes, or the first of which an end is no node's name.
 pub(crate) fn read_relations(
     alloc: Global,
-    names: &Names<'_>,
+    names: &NameIndex<'_>,
     relations: &WrittenRelations<'_>,
 ) -> Result<Vec<(Kind, u16, u16)>, ReadStop>
     ensures { Says (λ pairs. pairs.items) result (relations_in names.now relations.now) }
@@ -26,7 +25,7 @@ pub(crate) fn read_relations(
 
 // The kind and the two nodes of relation `i`.
 fn read_pair(
-    names: &Names<'_>,
+    names: &NameIndex<'_>,
     i: usize,
     relation: WrittenRelation<'_>,
 ) -> Result<(Kind, u16, u16), ReadStop>
@@ -39,11 +38,11 @@ fn read_pair(
 }
 
 // The node that an end of relation `i` is.
-fn read_end(names: &Names<'_>, i: usize, text: &str) -> Result<u16, ReadStop>
+fn read_end(names: &NameIndex<'_>, i: usize, text: &str) -> Result<u16, ReadStop>
     requires { i < 2 ^ 32 }
     ensures { result ≡ end_in names.now i text.now }
 {
-    match names.find(text) {
+    match names.find(text.as_bytes()) {
         Some(node) => Ok(node),
         None => Err(ReadStop::RelationEnd { i: i as u32 }),
     }

@@ -6,8 +6,8 @@ ghost use Rattle.dcr_shape.specs.declared.stop.ReadStop.TheVariants.{NoMemory};
 ghost use Rattle.dcr_limit.specs.Words.{HasShortLabel};
 ghost use Rattle.dcr_nodes.specs.Nodes.{marks_in, names_in, names_of, node_in, parent_in, tree_in, writes_mark};
 
-use crate::names::Names;
-use dcr_graph::{Label, LabelStop, Name};
+use crate::names::find_before;
+use dcr_graph::{Label, LabelStop, Name, NameIndex};
 use dcr_nest::{Node, parent_marks};
 use dcr_shape::{ReadStop, WrittenEvent, WrittenEvents};
 use std::alloc::Global;
@@ -15,7 +15,7 @@ use std::alloc::Global;
 // The nodes of the events, which have these names, or the first whose parent is no earlier event's name.
 pub(crate) fn read_tree(
     alloc: Global,
-    index: &Names<'_>,
+    index: &NameIndex<'_>,
     names: Vec<Name>,
     events: &WrittenEvents<'_>,
 ) -> Result<Vec<Node>, ReadStop>
@@ -37,7 +37,7 @@ pub(crate) fn read_tree(
 // The node of event `i`, which has this name.
 fn read_node(
     alloc: Global,
-    index: &Names<'_>,
+    index: &NameIndex<'_>,
     i: usize,
     name: Name,
     event: WrittenEvent<'_>,
@@ -57,14 +57,18 @@ fn read_node(
 }
 
 // The parent of event `i`.
-fn read_parent(index: &Names<'_>, i: usize, parent: Option<&str>) -> Result<Option<u16>, ReadStop>
+fn read_parent(
+    index: &NameIndex<'_>,
+    i: usize,
+    parent: Option<&str>,
+) -> Result<Option<u16>, ReadStop>
     requires { i < 2048 }
     ensures { result ≡ parent_in index.now i (option_map (λ text. text.now) parent.entry) }
 {
     let Some(text) = parent else {
         return Ok(None);
     };
-    let Some(number) = index.find_before(i, text) else {
+    let Some(number) = find_before(index, i, text) else {
         return Err(ReadStop::Parent { i: i as u32 });
     };
     Ok(Some(number))
