@@ -10,8 +10,8 @@ use Rattle.std.specs.Cmp.Lexicographic.{slice_cmp}
 use Rattle.std.proofs.lemmas.Nat.{mod_below}
 use Rattle.std.proofs.lemmas.List.{take_more, length-take, length-map, map_push, length-set, length_push, get_or-set_same, get_or-set_other, get_or_push, get_or_append_left}
 use Rattle.std.proofs.lemmas.Slice.Eq.{bytes_eq-Decides}
-use Rattle.dcr_set.specs.Least.{least, or_this}
-use Rattle.dcr_set.proofs.LeastLemmas.{least-ext, least-none_from}
+use Rattle.dcr_set.specs.Least.{least}
+use Rattle.dcr_set.proofs.LeastLemmas.{or_this, least-ext, least-none_from, least-suc}
 use Rattle.dcr_graph.specs.Names.{number_of}
 use Rattle.dcr_graph.specs.IndexModel.{Numbers, place_among, number_at, with_number, HasNumbers}
 
@@ -46,10 +46,6 @@ with_kept old text number other some = at (old other) refl (bytes_eq text other)
 
 -- ---- one text more
 
-one_more : (n : ℕ) (p : ℕ → Bool) → least (suc n) p ≡ or_this (least n p) n (p n)
-unfolding least
-one_more n p = refl
-
 same_or_apart : (a b : ℕ) → (a ≡ b) ⊎ (a ≢ b)
 same_or_apart a b = elim (cases_lt a b) [
   | inl below ↦ inr (λ e. omega arith)
@@ -61,7 +57,7 @@ number_more : (texts : List (List ℕ)) (text other : List ℕ) → number_of (t
 number_more texts text other =
     let last : least (length (texts ++ text ∷ [])) (named (texts ++ text ∷ []) other) ≡ least (suc (length texts)) (named (texts ++ text ∷ []) other) =
     ap (λ n. least n (named (texts ++ text ∷ []) other)) (length_push texts text ∙ (let e : length texts + 1 ≡ suc (length texts) = omega arith in e)) in
-    last ∙ (one_more (length texts) (named (texts ++ text ∷ []) other)
+    last ∙ (least-suc (length texts) (named (texts ++ text ∷ []) other)
     ∙ (ap (λ o. or_this o (length texts) (named (texts ++ text ∷ []) other (length texts))) (least-ext (length texts) (named (texts ++ text ∷ []) other) (named texts other) (λ j l. ap (λ t. bytes_eq t other) (get_or_append_left texts (text ∷ []) [] j l)))
     ∙ (ap (λ t. or_this (number_of texts other) (length texts) (bytes_eq t other)) (get_or_push texts text [] (length texts) refl) ∙ as_given (number_of texts other))))
   where
