@@ -2,5 +2,6 @@ pub mod Nodes
 pub mod Kinds
 pub mod Opening
 pub mod Words
+pub mod Contents
 pub mod Laws
 pub mod NamesModel
