@@ -18,7 +18,8 @@ use Rattle.dcr_size.specs.Laws.{json_in}
 use Rattle.dcr_nest.specs.Nest.{Nest, names_of}
 use Rattle.dcr_proj.specs.CoverValue.{Owners}
 use Rattle.dcr_set.specs.EventSet.{Set, numbers}
-use Rattle.dcr_canon.specs.GraphText.{name_value, parent_member, node_value, kind_text, relation_value, graph_value}
+use Rattle.dcr_graph.specs.KindText.{kind_text}
+use Rattle.dcr_canon.specs.GraphText.{name_value, parent_member, node_value, relation_value, graph_value}
 use Rattle.dcr_canon.specs.CoverText.{site_value, cover_value}
 
 -- the value has no number, its keys are in order, and it nests at most n deep

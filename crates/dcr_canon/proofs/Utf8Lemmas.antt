@@ -16,7 +16,8 @@ use Rattle.dcr_nest.specs.Nest.{Nest, names_of, labels_of}
 use Rattle.dcr_nest.specs.declared.node.Node.{Node}
 use Rattle.dcr_proj.specs.CoverValue.{Owners}
 use Rattle.dcr_set.specs.EventSet.{numbers}
-use Rattle.dcr_canon.specs.GraphText.{name_value, parent_member, node_value, kind_text, relation_value, graph_value}
+use Rattle.dcr_graph.specs.KindText.{kind_text}
+use Rattle.dcr_canon.specs.GraphText.{name_value, parent_member, node_value, relation_value, graph_value}
 use Rattle.dcr_canon.specs.CoverText.{site_value, cover_value}
 
 -- no number, and each key and each string is UTF-8

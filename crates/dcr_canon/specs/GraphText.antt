@@ -3,9 +3,8 @@ use Rattle.std.specs.Prelude.{ℕ, List, [], codes, map, Option, Some, None, sli
 use Rattle.serde_json.specs.Data.{Data, string, array, object, no_items, item, Members, no_members, member, put}
 use Rattle.serde_json.specs.View.{items_of}
 use Rattle.serde_json.specs.Written.{compact_text}
+use Rattle.dcr_graph.specs.KindText.{kind_text}
 use Rattle.dcr_graph.specs.Pairs.{Pair}
-use Rattle.dcr_graph.specs.declared.kind.Kind.{Kind}
-use Rattle.dcr_graph.specs.declared.kind.Kind.TheVariants.{Condition, Response, Milestone, Include, Exclude, Cancel}
 use Rattle.dcr_nest.specs.Nest.{Nest, names_of}
 use Rattle.dcr_nest.specs.declared.node.Node.{Node}
 
@@ -25,14 +24,6 @@ node_value names node = object (member (codes "label") (string node.label) (memb
 -- the nodes in order
 abbrev pub event_values : List Node → List Data
 event_values nodes = map (node_value (names_of nodes)) nodes
-
-abbrev pub kind_text : Kind → List ℕ
-kind_text Condition = codes "condition"
-kind_text Response = codes "response"
-kind_text Milestone = codes "milestone"
-kind_text Include = codes "include"
-kind_text Exclude = codes "exclude"
-kind_text Cancel = codes "cancel"
 
 -- a relation: its kind, and the names of its source and of its target
 abbrev pub relation_value : List (List ℕ) → Pair → Data

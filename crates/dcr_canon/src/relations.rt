@@ -2,7 +2,8 @@ ghost use Rattle.std.specs.Prelude.{◌≡◌, ◌<◌, length, map, IfOk};
 ghost use Rattle.serde_json.specs.View.{view};
 ghost use Rattle.dcr_graph.specs.Pairs.{AreInRange};
 ghost use Rattle.dcr_nest.specs.Nest.{names_of};
-ghost use Rattle.dcr_canon.specs.GraphText.{kind_text, relation_value, relation_values};
+ghost use Rattle.dcr_graph.specs.KindText.{kind_text};
+ghost use Rattle.dcr_canon.specs.GraphText.{relation_value, relation_values};
 
 use crate::events::name_value;
 use dcr_graph::Kind;

@@ -9,11 +9,12 @@ use Rattle.dcr_nest.specs.Nest.{parents_of, names_of as node_names}
 use Rattle.dcr_nest.specs.declared.node.Node.{Node}
 use Rattle.dcr_nest.proofs.FlatLemmas.{all_atoms, distinct_atoms}
 use Rattle.dcr_proj.specs.CoverValue.{Owners}
+use Rattle.dcr_shape.specs.Order.{EachAt}
 use Rattle.dcr_shape.specs.Parts.{Event, no_event}
 use Rattle.dcr_shape.specs.declared.stop.ReadStop.{ReadStop}
 use Rattle.dcr_shape.specs.declared.written.Written.{Written}
 use Rattle.dcr_nodes.specs.Nodes.{names_in, tree_in, marks_in, relations_in, names_of, nodes_in}
-use Rattle.dcr_nodes.specs.Words.{EachAt, HasNewName, OfEventName}
+use Rattle.dcr_nodes.specs.Words.{HasNewName, OfEventName}
 use Rattle.dcr_nodes.specs.declared.nodes.Nodes.{Nodes}
 use Rattle.dcr_nodes.proofs.LawLemmas.{nodes_law}
 use Rattle.dcr_nodes.proofs.NodeLemmas.{distinct_names, tree_names}

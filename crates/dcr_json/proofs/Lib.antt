@@ -3,3 +3,4 @@ pub mod KnownLemmas
 pub mod ClashLemmas
 pub mod CallsLemmas
 pub mod RefusalLemmas
+pub mod OpenLemmas

@@ -16,6 +16,7 @@ use Rattle.dcr_shape.specs.declared.stop.LimitKind.{LimitKind}
 use Rattle.dcr_shape.specs.declared.stop.ReadStop.{ReadStop}
 use Rattle.dcr_shape.specs.declared.stop.ReadStop.TheVariants as read
 use Rattle.dcr_shape.specs.declared.written.Written.{Written}
+use Rattle.dcr_shape.proofs.ContentLemmas.{contents_law as contained}
 use Rattle.dcr_shape.proofs.ShapeLemmas.{shape_law}
 use Rattle.dcr_limit.specs.Limits.{limits_in}
 use Rattle.dcr_limit.specs.Words.{KeepsLimit}
@@ -23,6 +24,7 @@ use Rattle.dcr_limit.proofs.LawLemmas.{limits_law}
 use Rattle.dcr_nodes.specs.Nodes.{nodes_in}
 use Rattle.dcr_nodes.specs.Words.{Refusal, OfEventName, OfParent, OfMarkOnNest, OfRelationEnd, refused as node_stop}
 use Rattle.dcr_nodes.specs.declared.nodes.Nodes.{Nodes}
+use Rattle.dcr_nodes.proofs.ContentLemmas.{contents_law as nodes_written}
 use Rattle.dcr_nodes.proofs.LawLemmas.{nodes_law}
 use Rattle.dcr_cover.specs.Told.{Written as Sited, first_unknown, site_at, has_bad_name, site_stop, first_stop, first_uncovered, owners_told, told_by, cover_told}
 use Rattle.dcr_cover.specs.declared.text.CoverStop.{CoverStop}
@@ -85,13 +87,13 @@ unfolding value_in
 shape_so d r e = ap (λ s. after from_written (lifted s)) e
 
 written_so : (bytes : List ℕ) (w : Written) → Writes bytes w → case_in bytes ≡ from_written w
-written_so bytes w h = value_so bytes h.value h.spelled ∙ shape_so h.value (Ok w) h.shape
+written_so bytes w h = value_so bytes h.value h.spelled ∙ shape_so h.value (Ok w) ((contained h.value w).1 h.contains)
 
 limits_so : (bytes : List ℕ) (w : Written) → Writes bytes w → ((kind : LimitKind) → KeepsLimit w kind) → case_in bytes ≡ from_nodes w
 limits_so bytes w h kept = written_so bytes w h ∙ ap (λ r. after (λ _. from_nodes w) (lifted r)) ((limits_law w).given.1 kept).1
 
 nodes_so : (bytes : List ℕ) (w : Written) (nodes : Nodes) → HasNodes bytes w nodes → case_in bytes ≡ judged w nodes
-nodes_so bytes w nodes h = limits_so bytes w h.written h.limits ∙ ap (λ r. after (judged w) (lifted r)) h.are
+nodes_so bytes w nodes h = limits_so bytes w h.written h.limits ∙ ap (λ r. after (judged w) (lifted r)) ((nodes_written w nodes).1 h.are)
 
 clash_so : (w : Written) (nodes : Nodes) (o : Option (ℕ × ℕ)) → first_clash (flat_relation nodes.nested) ≡ o → judged w nodes ≡ after (λ _. from_unclashed w nodes) (by_clash (atom_names nodes.nested) o)
 unfolding judged unclashed
@@ -136,7 +138,7 @@ comes bytes (Owned i j) h = stopped bytes h.written h.nodes (cover.Owned i j) (O
 comes bytes (Uncovered name) h =
     stopped bytes h.written h.nodes (cover.Uncovered h.so.atom) (Uncovered name) h.file (told_uncovered_from h.nodes.nested (sites_of h.written) h.so.atom h.so.least) (ap (λ n. Err (Uncovered n)) (sym h.so.named))
 comes bytes (CallLine k j) h =
-    let known = atoms_are_names h.written h.nodes h.file.before.before.are in
+    let known = atoms_are_names h.written h.nodes ((nodes_written h.written h.nodes).1 h.file.before.before.are) in
     let sites = sites_are_names h.written h.nodes h.cover h.file.are in
     covered_so bytes h.written h.nodes h.cover h.file
     ∙ ap (after (λ sessions. Ok (spelled_by h.nodes h.cover sessions))) (no_call_told h.cover.names (atom_names h.nodes.nested) sites known h.written.sessions k j h.first)
@@ -146,7 +148,7 @@ comes bytes NoMemory h = absurd h
 pub spells : (bytes : List ℕ) (spelled : Spelled) → SpellsCase bytes spelled → case_in bytes ≡ Ok spelled
 spells bytes spelled h =
     let names = atom_names h.nodes.nested in
-    let known = atoms_are_names h.written h.nodes h.file.before.before.are in
+    let known = atoms_are_names h.written h.nodes ((nodes_written h.written h.nodes).1 h.file.before.before.are) in
     let sites = sites_are_names h.written h.nodes spelled.cover h.file.are in
     let told = ap (sessions_told spelled.cover.names names) h.texts ∙ texts_read spelled.cover.names names sites known spelled.sessions h.in_range in
     let whole = covered_so bytes h.written h.nodes spelled.cover h.file ∙ ap (after (λ sessions. Ok (spelled_by h.nodes spelled.cover sessions))) told in
@@ -185,7 +187,7 @@ not_memory N sites e = by_stop (first_stop N sites) (first_uncovered N sites) re
 
 judge_cover : (bytes : List ℕ) (w : Written) (nodes : Nodes) (owners : Owners) → HasCover bytes w nodes owners → Verdict bytes
 judge_cover bytes w nodes owners h =
-    at (sessions_end owners.names (atom_names nodes.nested) (sites_are_names w nodes owners h.are) (atoms_are_names w nodes h.before.before.are) w.sessions)
+    at (sessions_end owners.names (atom_names nodes.nested) (sites_are_names w nodes owners h.are) (atoms_are_names w nodes ((nodes_written w nodes).1 h.before.before.are)) w.sessions)
   where
     at : SessionsEnd owners.names (atom_names nodes.nested) w.sessions → Verdict bytes
     at (all_calls calls e all) = given (spelled_by nodes owners calls) (covered_so bytes w nodes owners h ∙ ap (after (λ sessions. Ok (spelled_by nodes owners sessions))) e) (record {
@@ -240,7 +242,7 @@ judge_kept bytes w h kept = at (nodes_in w) refl
     by_refusal OfRelationEnd i e = refused (RelationEnd i) (record { written = w; file = h; limits = kept; first = ((nodes_law w).refused OfRelationEnd i).0 e })
 
     at : (r : Result Nodes ReadStop) → nodes_in w ≡ r → Verdict bytes
-    at (Ok nodes) e = judge_nodes bytes w nodes (record { written = h; limits = kept; are = e })
+    at (Ok nodes) e = judge_nodes bytes w nodes (record { written = h; limits = kept; are = (nodes_written w nodes).0 e })
     at (Err stop) e = let found = (nodes_law w).no_other stop e in by_refusal found.0 found.1 (e ∙ ap Err found.2)
 
 judge_written : (bytes : List ℕ) (w : Written) → Writes bytes w → Verdict bytes
@@ -256,7 +258,7 @@ judge_value : (bytes : List ℕ) (d : Data) → SpellsJson bytes d → Verdict b
 judge_value bytes d h = at (shape_in d) refl
   where
     at : (r : Result Written ReadStop) → shape_in d ≡ r → Verdict bytes
-    at (Ok w) e = judge_written bytes w (record { value = d; spelled = h; shape = e })
+    at (Ok w) e = judge_written bytes w (record { value = d; spelled = h; contains = (contained d w).0 e })
     at (Err stop) e =
         let found = (shape_law d).no_other stop e in
         refused (Shape found.0 found.1) (d, h, ((shape_law d).refused found.0 found.1).0 (e ∙ ap Err found.2))

@@ -3,3 +3,4 @@ pub mod Judged
 pub mod Case
 pub mod Built
 pub mod Refusals
+pub mod Opens

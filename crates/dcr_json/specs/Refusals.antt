@@ -8,17 +8,17 @@ use Rattle.dcr_graph.specs.Pairs.{clashes}
 use Rattle.dcr_nest.specs.Nest.{Nest}
 use Rattle.dcr_nest.specs.FlatRelation.{flat_relation}
 use Rattle.dcr_proj.specs.CoverValue.{Owners}
-use Rattle.dcr_shape.specs.Case.{shape_in}
+use Rattle.dcr_shape.specs.Contents.{Contains}
 use Rattle.dcr_shape.specs.Laws.{rank as part_rank}
-use Rattle.dcr_shape.specs.Order.{IsFirstToFail}
+use Rattle.dcr_shape.specs.Order.{EachAt, FailsFirst, IsFirstToFail}
 use Rattle.dcr_shape.specs.Words.{Holds as PartHolds, FailsAt as PartFailsAt}
 use Rattle.dcr_shape.specs.declared.stop.LimitKind.{LimitKind}
 use Rattle.dcr_shape.specs.declared.written.Written.{Written}
 use Rattle.dcr_limit.specs.Laws.{rank as limit_rank}
 use Rattle.dcr_limit.specs.Words.{KeepsLimit, BreaksLimit}
+use Rattle.dcr_nodes.specs.Contents.{AreNodes}
 use Rattle.dcr_nodes.specs.Laws.{rank as node_rank}
-use Rattle.dcr_nodes.specs.Nodes.{nodes_in}
-use Rattle.dcr_nodes.specs.Words.{EachAt, FailsFirst, Refusal, OfEventName, OfParent, OfMarkOnNest, OfRelationEnd, Holds as NodesHold, FailsAt as NodesFailAt}
+use Rattle.dcr_nodes.specs.Words.{Refusal, OfEventName, OfParent, OfMarkOnNest, OfRelationEnd, Holds as NodesHold, FailsAt as NodesFailAt}
 use Rattle.dcr_nodes.specs.declared.nodes.Nodes.{Nodes}
 use Rattle.dcr_cover.specs.Refusals.{AreCover, IsUncovered, RefusesName, RefusesText}
 use Rattle.dcr_journal.specs.Run.{IsInRange}
@@ -38,17 +38,17 @@ pub record SpellsJson (bytes : List ℕ) (d : Data) : Type 0 where
   pub short : length bytes ≤ 16777216
   pub json : json_in bytes ≡ Some d
 
--- and it has the shape of a case file, in which this is written
+-- and that is a case file, which contains this
 pub record Writes (bytes : List ℕ) (w : Written) : Type 0 where
   pub value : Data
   pub spelled : SpellsJson bytes value
-  pub shape : shape_in value ≡ Ok w
+  pub contains : Contains value w
 
 -- and that keeps the limits, and has these nodes and this opening marking
 pub record HasNodes (bytes : List ℕ) (w : Written) (nodes : Nodes) : Type 0 where
   pub written : Writes bytes w
   pub limits : (kind : LimitKind) → KeepsLimit w kind
-  pub are : nodes_in w ≡ Ok nodes
+  pub are : AreNodes w nodes
 
 -- no pair of atoms is both included and excluded
 abbrev pub HasNoClash : Rules → Type 0

@@ -1,20 +1,20 @@
 -- The stages one after another: all is as the format says, or one is the first that is refused.
-use Rattle.std.proofs.Common.{◌≡◌, ℕ, zero, suc, ◌+◌, ◌<◌, inl, inr, Bool, true, false, ◌||◌, List, Option, Some, None, is_some, Result, Ok, Err, refl, sym, ap, ◌∙◌, subst, arith}
+use Rattle.std.proofs.Common.{◌≡◌, ℕ, zero, suc, ◌+◌, ◌<◌, Bool, true, false, ◌||◌, List, Option, Some, None, is_some, Result, Ok, Err, refl, sym, ap, ◌∙◌, subst, arith}
 use Rattle.std.specs.List.{list_any}
 use Rattle.std.specs.Prelude.{IfSome}
-use Rattle.std.proofs.lemmas.Bool.{cases_lt}
 use Rattle.dcr_graph.specs.Names.{is_name, number_of}
+use Rattle.dcr_shape.specs.Order.{EachAt, FailsFirst}
 use Rattle.dcr_shape.specs.Parts.{Event, Relation}
 use Rattle.dcr_shape.specs.Stages.{after, each_from}
 use Rattle.dcr_shape.specs.declared.stop.ReadStop.{ReadStop}
 use Rattle.dcr_shape.specs.declared.stop.ReadStop.TheVariants.{EventName, Parent, MarkOnNest, RelationEnd}
 use Rattle.dcr_shape.specs.declared.written.Written.{Written}
 use Rattle.dcr_shape.proofs.EachLemmas.{OneRead, went, halted, EachRead, all_read, first_not, each_read_from}
-use Rattle.dcr_shape.proofs.OrderLemmas.{Outcome, passed, failed, Ends, all_hold, IsOrder, up_to_none, stage, refuses_first}
+use Rattle.dcr_shape.proofs.OrderLemmas.{Outcome, passed, failed, not_each, least_alone, Ends, all_hold, IsOrder, up_to_none, stage, refuses_first}
 use Rattle.dcr_limit.specs.Limits.{names_parent}
 use Rattle.dcr_nodes.specs.Laws.{rank, NodesAreTheFormats}
 use Rattle.dcr_nodes.specs.Nodes.{names_of, number_before, name_in, names_in, parent_in, node_with, node_in, tree_in, writes_mark, mark_in, marks_in, end_in, pair_in, relations_in, nodes_in}
-use Rattle.dcr_nodes.specs.Words.{EachAt, FailsFirst, IsEarlierName, IsEventName, HasNewName, HasEarlierParent, HasNoMark, HasNoMarkAsParent, HasEnds, Refusal, OfEventName, OfParent, OfMarkOnNest, OfRelationEnd, refused, Holds, FailsAt}
+use Rattle.dcr_nodes.specs.Words.{IsEarlierName, IsEventName, HasNewName, HasEarlierParent, HasNoMark, HasNoMarkAsParent, HasEnds, Refusal, OfEventName, OfParent, OfMarkOnNest, OfRelationEnd, refused, Holds, FailsAt}
 use Rattle.dcr_nodes.proofs.NameLemmas.{is_earlier, not_earlier, is_event, not_event, is_parent_name, not_parent_name}
 
 -- ---- each of a list
@@ -178,18 +178,6 @@ index_is OfEventName i = refl
 index_is OfParent i = refl
 index_is OfMarkOnNest i = refl
 index_is OfRelationEnd i = refl
-
-not_each : {A : Type 0} (P : ℕ → A → Type 0) (xs : List A) (i : ℕ) → FailsFirst P xs i → EachAt P xs → ⊥
-not_each P xs i first each = first.fails (each i first.element first.at)
-
-least_alone : {A : Type 0} (P : ℕ → A → Type 0) (xs : List A) (i j : ℕ) → FailsFirst P xs i → FailsFirst P xs j → i ≡ j
-least_alone P xs i j a b = elim (cases_lt i j) [
-  | inl less ↦ absurd (a.fails (b.earlier i a.element less a.at))
-  | inr not_less ↦ elim (cases_lt j i) [
-    | inl more ↦ absurd (b.fails (a.earlier j b.element more b.at))
-    | inr not_more ↦ omega arith
-  ]
-]
 
 not_both : (w : Written) (k : Refusal) (i : ℕ) → FailsAt w k i → Holds w k → ⊥
 not_both w OfEventName i first each = not_each _ _ i first each

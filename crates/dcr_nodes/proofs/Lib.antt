@@ -3,3 +3,4 @@ pub mod NameLemmas
 pub mod NodeLemmas
 pub mod KindLemmas
 pub mod LawLemmas
+pub mod ContentLemmas

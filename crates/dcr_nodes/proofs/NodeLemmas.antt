@@ -111,11 +111,11 @@ node_of names i event node e = at (parent_in names i event.parent) refl e
         record { parent = is ∙ ap (λ (n : Node). Ok n.parent) same; name = sym (ap (λ (n : Node). n.name) same) }
 
 -- what a parent that is read stands for
-data IsParentOf (names : List (List ℕ)) (i : ℕ) (written : Option (List ℕ)) (parent : Option ℕ) : Type 0 where
+pub data IsParentOf (names : List (List ℕ)) (i : ℕ) (written : Option (List ℕ)) (parent : Option ℕ) : Type 0 where
   no_parent : written ≡ None → parent ≡ None → IsParentOf names i written parent
   has_parent : (text : List ℕ) (p : ℕ) → written ≡ Some text → parent ≡ Some p → number_before names i text ≡ Some p → IsParentOf names i written parent
 
-parent_of_text : (names : List (List ℕ)) (i : ℕ) (written : Option (List ℕ)) (parent : Option ℕ) → parent_in names i written ≡ Ok parent → IsParentOf names i written parent
+pub parent_of_text : (names : List (List ℕ)) (i : ℕ) (written : Option (List ℕ)) (parent : Option ℕ) → parent_in names i written ≡ Ok parent → IsParentOf names i written parent
 parent_of_text names i None parent e = no_parent refl cc
 parent_of_text names i (Some text) parent e = at (number_before names i text) refl e
   where

@@ -2,21 +2,11 @@
 use Rattle.std.specs.Prelude.{◌≡◌, ℕ, ◌<◌, true, None, Some, IfSome, List}
 use Rattle.std.specs.List.{slice_get}
 use Rattle.dcr_graph.specs.Names.{is_name}
+use Rattle.dcr_shape.specs.Order.{EachAt, FailsFirst}
 use Rattle.dcr_shape.specs.Parts.{Event, Relation}
 use Rattle.dcr_shape.specs.declared.stop.ReadStop.{ReadStop}
 use Rattle.dcr_shape.specs.declared.stop.ReadStop.TheVariants.{EventName, Parent, MarkOnNest, RelationEnd}
 use Rattle.dcr_shape.specs.declared.written.Written.{Written}
-
--- each of a list passes, by its index
-abbrev pub EachAt : {A : Type 0} → (ℕ → A → Type 0) → List A → Type 0
-EachAt P xs = (i : ℕ) (x : _) → slice_get xs i ≡ Some x → P i x
-
--- i is the least index of one that does not
-pub record FailsFirst {A : Type 0} (P : ℕ → A → Type 0) (xs : List A) (i : ℕ) : Type 0 where
-  pub element : A
-  pub at : slice_get xs i ≡ Some element
-  pub fails : ¬ P i element
-  pub earlier : (j : ℕ) (x : A) → j < i → slice_get xs j ≡ Some x → P j x
 
 -- ---- the events
 

@@ -41,7 +41,8 @@ use Rattle.dcr_nodes.specs.Opening.{opening_in}
 use Rattle.dcr_nodes.specs.declared.nodes.Nodes.{Nodes}
 use Rattle.dcr_nodes.proofs.NameLemmas.{before_found, name_new}
 use Rattle.dcr_nodes.proofs.NodeLemmas.{as_many_atoms, mark_passed}
-use Rattle.dcr_canon.specs.GraphText.{name_value, parent_member, node_value, event_values, kind_text, relation_value, relation_values, graph_value}
+use Rattle.dcr_graph.specs.KindText.{kind_text}
+use Rattle.dcr_canon.specs.GraphText.{name_value, parent_member, node_value, event_values, relation_value, relation_values, graph_value}
 use Rattle.dcr_reading.specs.Accepted.{AreAllNames, IsAcceptedGraph}
 use Rattle.dcr_reading.specs.File.{graph_file}
 use Rattle.dcr_reading.specs.Found.{nested_found, nodes_of}

@@ -13,7 +13,8 @@ use Rattle.serde_json.specs.Written.{comma_if, compact_text, items_text, members
 use Rattle.dcr_graph.specs.Pairs.{Pair}
 use Rattle.dcr_graph.specs.declared.kind.Kind.{Kind}
 use Rattle.dcr_graph.specs.declared.kind.Kind.TheVariants.{Condition, Response, Milestone, Include, Exclude, Cancel}
-use Rattle.dcr_canon.specs.GraphText.{name_value, parent_member, kind_text, relation_value}
+use Rattle.dcr_graph.specs.KindText.{kind_text}
+use Rattle.dcr_canon.specs.GraphText.{name_value, parent_member, relation_value}
 use Rattle.dcr_canon.specs.CoverText.{site_value}
 use Rattle.dcr_set.specs.EventSet.{Set, has, numbers}
 
