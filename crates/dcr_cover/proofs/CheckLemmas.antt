@@ -16,7 +16,7 @@ use Rattle.dcr_nest.specs.Nest.{Nest, names_of, parents_of}
 use Rattle.dcr_nest.specs.Tree.{atoms}
 use Rattle.dcr_nest.specs.FlatRelation.{IsFlattening}
 use Rattle.dcr_proj.specs.CoverValue.{owners, atoms_of, is_owned, IsCover}
-use Rattle.dcr_cover.specs.Told.{Written, atom_count, set_of, site_at, has_bad_name, site_stop, first_stop, owners_told}
+use Rattle.dcr_cover.specs.Told.{Written, atom_count, set_meant, site_at, has_bad_name, site_stop, first_stop, owners_told}
 use Rattle.dcr_cover.specs.declared.text.CoverStop.{CoverStop}
 
 -- a list that goes through another, one element more
@@ -87,11 +87,11 @@ names_differ N sites none i j before within =
 
 -- each owned set has a place for each atom
 pub rooms_told : (N : Nest) (sites : List Written) → All (λ set. length set ≡ atom_count N) (owners_told N sites).owned
-rooms_told N sites = All-from_get_or (λ set. length set ≡ atom_count N) (map (λ site. set_of N site.1) sites) [] (λ i within.
-    ap (λ s. length s) (get_or-map (λ site. set_of N site.1) sites i ([], []) [] (omega (arith, length-map sites (λ site. set_of N site.1)))) ∙ length-those (atom_count N) _)
+rooms_told N sites = All-from_get_or (λ set. length set ≡ atom_count N) (map (λ site. set_meant N site.1) sites) [] (λ i within.
+    ap (λ s. length s) (get_or-map (λ site. set_meant N site.1) sites i ([], []) [] (omega (arith, length-map sites (λ site. set_meant N site.1)))) ∙ length-those (atom_count N) _)
 
 pub atoms_told : (N : Nest) (sites : List Written) → 1 ≤ length sites → atoms_of (owners_told N sites).owned ≡ atom_count N
-atoms_told N sites some = ap (λ s. length s) (get_or-map (λ site. set_of N site.1) sites 0 ([], []) [] (omega arith)) ∙ length-those (atom_count N) _
+atoms_told N sites some = ap (λ s. length s) (get_or-map (λ site. set_meant N site.1) sites 0 ([], []) [] (omega arith)) ∙ length-those (atom_count N) _
 
 -- sites with which nothing is wrong, and which own each atom, are a cover
 pub cover_is : (N : Nest) (sites : List Written) → 1 ≤ length sites → length sites ≤ 64 → first_stop N sites ≡ None
@@ -99,7 +99,7 @@ pub cover_is : (N : Nest) (sites : List Written) → 1 ≤ length sites → leng
 cover_is N sites some most none owned = record {
   some_site = omega (arith, length-map sites (λ site. site.0));
   most_sites = omega (arith, length-map sites (λ site. site.0));
-  as_many = length-map sites (λ site. set_of N site.1) ∙ sym (length-map sites (λ site. site.0));
+  as_many = length-map sites (λ site. set_meant N site.1) ∙ sym (length-map sites (λ site. site.0));
   distinct = names_differ N sites none;
   rooms = subst (λ n. All (λ set. length set ≡ n) (owners_told N sites).owned) (sym (atoms_told N sites some)) (rooms_told N sites);
   covered = λ atom below. owned atom (omega (arith, atoms_told N sites some));

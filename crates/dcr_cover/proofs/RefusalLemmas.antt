@@ -12,7 +12,7 @@ use Rattle.dcr_set.proofs.SetLemmas.{length-those, same_set}
 use Rattle.dcr_graph.specs.Names.{is_name}
 use Rattle.dcr_nest.specs.Nest.{Nest}
 use Rattle.dcr_proj.specs.CoverValue.{Owners, owners, is_owned}
-use Rattle.dcr_cover.specs.Told.{Written, atom_count, node_named, meaning, set_of, first_unknown, site_at, has_bad_name, site_stop, first_stop, owners_told, first_uncovered, told_by, cover_told}
+use Rattle.dcr_cover.specs.Told.{Written, atom_count, node_named, meaning, set_meant, first_unknown, site_at, has_bad_name, site_stop, first_stop, owners_told, first_uncovered, told_by, cover_told}
 use Rattle.dcr_cover.specs.Refusals.{text_at, HasGoodName, IsGood, SomeOwns, RefusesName, RefusesText, IsUncovered, AreCover}
 use Rattle.dcr_cover.specs.declared.text.CoverStop.{CoverStop}
 use Rattle.dcr_cover.specs.declared.text.CoverStop.TheVariants.{SiteName, Owned, Uncovered}
@@ -247,10 +247,10 @@ module _ (N : Nest) (sites : List Written) where
   -- ---- who owns an atom
 
   abbrev sets : List Set
-  sets = map (λ site. set_of N site.1) sites
+  sets = map (λ site. set_meant N site.1) sites
 
-  set_at : (i : ℕ) → i < length sites → get_or sets i [] ≡ set_of N (site_at sites i).1
-  set_at i within = get_or-map (λ site. set_of N site.1) sites i ([], []) [] within
+  set_at : (i : ℕ) → i < length sites → get_or sets i [] ≡ set_meant N (site_at sites i).1
+  set_at i within = get_or-map (λ site. set_meant N site.1) sites i ([], []) [] within
 
   room_at : (i : ℕ) → i < length sites → length (get_or sets i []) ≡ atom_count N
   room_at i within = ap (λ set. length set) (set_at i within) ∙ length-those (atom_count N) _
@@ -258,16 +258,16 @@ module _ (N : Nest) (sites : List Written) where
   some_owns : (atom : ℕ) → atom < atom_count N → is_owned sets atom ≡ true → SomeOwns N sites atom
   some_owns atom within told =
       let some = Any-from_list_any (λ set. has set atom) sets told in
-      let below : some.0 < length sites = omega (arith, length-map sites (λ site. set_of N site.1), some.2) in (
+      let below : some.0 < length sites = omega (arith, length-map sites (λ site. set_meant N site.1), some.2) in (
         some.0,
         below,
         owns_from_has N (site_at sites some.0) atom within
-            (ap (λ set. has set atom) (sym (get_or-map (λ site. set_of N site.1) sites some.0 ([], []) some.1 below) ∙ some.3) ∙ some.4),
+            (ap (λ set. has set atom) (sym (get_or-map (λ site. set_meant N site.1) sites some.0 ([], []) some.1 below) ∙ some.3) ∙ some.4),
       )
 
   owned_by_some : (atom : ℕ) → atom < atom_count N → SomeOwns N sites atom → is_owned sets atom ≡ true
   owned_by_some atom within owner =
-      let below : owner.0 < length sets = omega (arith, length-map sites (λ site. set_of N site.1), owner.1) in
+      let below : owner.0 < length sets = omega (arith, length-map sites (λ site. set_meant N site.1), owner.1) in
       list_any_at (λ set. has set atom) sets owner.0 [] below
       (ap (λ set. has set atom) (set_at owner.0 owner.1) ∙ has_from_owns N (site_at sites owner.0) atom within owner.2)
 
@@ -304,19 +304,19 @@ module _ (N : Nest) (sites : List Written) where
         sites_good = all_good parts.0;
         covered = λ atom within. some_owns atom within (each_owned sets (atom_count N) (sym parts.1) atom within);
         names = ap (λ (c : Owners). c.names) parts.2;
-        as_many = ap (λ owned. length owned) owned_is ∙ length-map sites (λ site. set_of N site.1);
+        as_many = ap (λ owned. length owned) owned_is ∙ length-map sites (λ site. set_meant N site.1);
         rooms = λ i within. ap (λ owned. length (get_or owned i [])) owned_is ∙ room_at i within;
         owned = λ i atom within below.
-            let same : has (get_or cover.owned i []) atom ≡ has (set_of N (site_at sites i).1) atom = ap (λ owned. has (get_or owned i []) atom) owned_is ∙ ap (λ set. has set atom) (set_at i within) in
+            let same : has (get_or cover.owned i []) atom ≡ has (set_meant N (site_at sites i).1) atom = ap (λ owned. has (get_or owned i []) atom) owned_is ∙ ap (λ set. has set atom) (set_at i within) in
             ((λ told. owns_from_has N (site_at sites i) atom below (sym same ∙ told)), (λ owns. same ∙ has_from_owns N (site_at sites i) atom below owns));
       }
 
   same_owned : (cover : Owners) → AreCover N sites cover → cover.owned ≡ sets
-  same_owned cover r = ext_get_or [] cover.owned sets (r.as_many ∙ sym (length-map sites (λ site. set_of N site.1))) (λ i below.
+  same_owned cover r = ext_get_or [] cover.owned sets (r.as_many ∙ sym (length-map sites (λ site. set_meant N site.1))) (λ i below.
       let within : i < length sites = omega (arith, r.as_many) in
       same_set (get_or cover.owned i []) (get_or sets i []) (r.rooms i within ∙ sym (room_at i within)) (λ atom l.
       let least_room : atom < atom_count N = omega (arith, r.rooms i within) in
-      same_truth (has (get_or cover.owned i []) atom) (has (set_of N (site_at sites i).1) atom)
+      same_truth (has (get_or cover.owned i []) atom) (has (set_meant N (site_at sites i).1) atom)
       (λ told. has_from_owns N (site_at sites i) atom least_room ((r.owned i atom within least_room).0 told))
       (λ told. (r.owned i atom within least_room).1 (owns_from_has N (site_at sites i) atom least_room told))
       ∙ ap (λ set. has set atom) (sym (set_at i within))))

@@ -12,7 +12,7 @@ use Rattle.dcr_nest.specs.Nest.{Nest, parents_of}
 use Rattle.dcr_nest.specs.Tree.{atoms, atoms_below, is_at_or_below}
 use Rattle.dcr_nest.specs.declared.node.Node.{Node}
 use Rattle.dcr_nest.proofs.FlatLemmas.{has-atoms_below}
-use Rattle.dcr_cover.specs.Told.{Written, atom_count, node_named, meaning, is_in, set_of}
+use Rattle.dcr_cover.specs.Told.{Written, atom_count, node_named, meaning, is_in, set_meant}
 use Rattle.dcr_cover.specs.Refusals.{text_at, Owns}
 
 -- a text names a node
@@ -37,8 +37,8 @@ none-meaning N text = by (node_named N text)
     by (Some node) = refl
 
 -- one text more
-pub set_more : (N : Nest) (texts : List (List ℕ)) (j : ℕ) (set events joined : Set) → j < length texts → set ≡ set_of N (take j texts) → length set ≡ atom_count N
-    → meaning N (get_or texts j []) ≡ Some events → joined ≡ union set events → joined ≡ set_of N (take (j + 1) texts)
+pub set_more : (N : Nest) (texts : List (List ℕ)) (j : ℕ) (set events joined : Set) → j < length texts → set ≡ set_meant N (take j texts) → length set ≡ atom_count N
+    → meaning N (get_or texts j []) ≡ Some events → joined ≡ union set events → joined ≡ set_meant N (take (j + 1) texts)
 set_more N texts j set events joined within before room here union_is =
     union_is ∙ ap (λ n. those n (λ k. has set k || has events k)) room
     ∙ those-ext (atom_count N) (λ k. has set k || has events k) (λ atom. list_any (λ text. is_in (meaning N text) atom) (take (j + 1) texts)) (λ k below.
@@ -48,7 +48,7 @@ set_more N texts j set events joined within before room here union_is =
     ∙ sym (list_any_more (λ text. is_in (meaning N text) k) texts j [] within))
 
 -- no text means nothing
-pub set_none : (N : Nest) (n : ℕ) (set : Set) → set ≡ no_event n → n ≡ atom_count N → set ≡ set_of N []
+pub set_none : (N : Nest) (n : ℕ) (set : Set) → set ≡ no_event n → n ≡ atom_count N → set ≡ set_meant N []
 set_none N n set empty room = empty ∙ ap no_event room
 
 -- what a site owns is what its texts mean
@@ -59,7 +59,7 @@ module _ (N : Nest) (site : Written) (atom : ℕ) (within : atom < atom_count N)
   in_below : (node : ℕ) → has (atoms_below (parents_of N.nodes) node) atom ≡ is_at_or_below (parents_of N.nodes) node_of node
   in_below node = has-atoms_below (parents_of N.nodes) node atom within
 
-  pub has_from_owns : Owns N site atom → has (set_of N site.1) atom ≡ true
+  pub has_from_owns : Owns N site atom → has (set_meant N site.1) atom ≡ true
   has_from_owns owns =
       has-those (atom_count N) (λ a. list_any (λ text. is_in (meaning N text) a) site.1) atom within
       ∙ list_any_at (λ text. is_in (meaning N text) atom) site.1 owns.place [] owns.within
@@ -78,7 +78,7 @@ module _ (N : Nest) (site : Written) (atom : ℕ) (within : atom < atom_count N)
         below = sym (in_below node) ∙ sym (ap (λ o. is_in o atom) (meaning_some N (text_at site j) node named)) ∙ told;
       }
 
-  pub owns_from_has : has (set_of N site.1) atom ≡ true → Owns N site atom
+  pub owns_from_has : has (set_meant N site.1) atom ≡ true → Owns N site atom
   owns_from_has told =
       let some = Any-from_list_any (λ text. is_in (meaning N text) atom) site.1
       (sym (has-those (atom_count N) (λ a. list_any (λ text. is_in (meaning N text) a) site.1) atom within) ∙ told) in

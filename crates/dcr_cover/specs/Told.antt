@@ -33,8 +33,8 @@ is_in None atom = false
 is_in (Some set) atom = has set atom
 
 -- the atoms that a text of the list means; a text that stands twice counts once
-abbrev pub set_of : Nest → List (List ℕ) → Set
-set_of N texts = those (atom_count N) (λ atom. list_any (λ text. is_in (meaning N text) atom) texts)
+abbrev pub set_meant : Nest → List (List ℕ) → Set
+set_meant N texts = those (atom_count N) (λ atom. list_any (λ text. is_in (meaning N text) atom) texts)
 
 -- the place of the first text of the list that means nothing
 abbrev pub first_unknown : Nest → List (List ℕ) → Option ℕ
@@ -58,7 +58,7 @@ first_stop N sites = option_and_then (site_stop N sites) (least (length sites) (
 
 -- the sites by name, and what they own
 abbrev pub owners_told : Nest → List Written → Owners
-owners_told N sites = owners (map (λ site. site.0) sites) (map (λ site. set_of N site.1) sites)
+owners_told N sites = owners (map (λ site. site.0) sites) (map (λ site. set_meant N site.1) sites)
 
 -- the least atom that no site owns
 abbrev pub first_uncovered : Nest → List Written → Option ℕ

@@ -1,7 +1,7 @@
 ghost use Rattle.std.specs.Prelude.{◌≡◌, ◌≢◌, ◌<◌, ◌≤◌, ◌^◌, true, false, None, Some, length, map, All, IfOk, IfErr, OnOk, MatchResult};
 ghost use Rattle.std.specs.Str.{bytes_eq};
 ghost use Rattle.dcr_set.specs.Least.{some_below};
-ghost use Rattle.dcr_cover.specs.Told.{first_stop, first_unknown, has_bad_name, owners_told, set_of, site_at, site_stop};
+ghost use Rattle.dcr_cover.specs.Told.{first_stop, first_unknown, has_bad_name, owners_told, set_meant, site_at, site_stop};
 ghost use Rattle.dcr_cover.specs.declared.text.CoverStop.TheVariants.{NoMemory, SiteName};
 
 use crate::index::Index;
@@ -46,7 +46,7 @@ fn read_site<S: AsSiteText>(
     requires texts { All (λ site. length (S.written site).1 < 2 ^ 32) sites.now }
     requires within { i < length sites.now }
     ensures name { IfOk result (λ site. site.0 ≡ (site_at (map S.written sites.now) i).0) }
-    ensures owned { IfOk result (λ site. site.1 ≡ set_of index.now (site_at (map S.written sites.now) i).1) }
+    ensures owned { IfOk result (λ site. site.1 ≡ set_meant index.now (site_at (map S.written sites.now) i).1) }
     ensures good { OnOk result (site_stop index.now (map S.written sites.now) i ≡ None) }
     ensures stop { IfErr result (λ stop. stop ≢ NoMemory → site_stop index.now (map S.written sites.now) i ≡ Some stop) }
 {
@@ -92,7 +92,7 @@ fn is_named_before<S: AsSiteText>(sites: &[S], i: usize, name: &str) -> bool
 // What the owned texts mean together, or the place of the first that means nothing.
 fn read_owned<S: AsSiteText>(index: &Index<'_>, site: &S) -> Result<EventSet, u32>
     requires { length (S.written site.now).1 < 2 ^ 32 }
-    ensures set { IfOk result (λ set. set ≡ set_of index.now (S.written site.now).1) }
+    ensures set { IfOk result (λ set. set ≡ set_meant index.now (S.written site.now).1) }
     ensures known { OnOk result (first_unknown index.now (S.written site.now).1 ≡ None) }
     ensures unknown { IfErr result (λ j. first_unknown index.now (S.written site.now).1 ≡ Some j) }
 {

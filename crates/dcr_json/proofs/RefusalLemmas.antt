@@ -11,7 +11,7 @@ use Rattle.dcr_nest.specs.Nest.{Nest}
 use Rattle.dcr_nest.specs.FlatRelation.{flat_relation}
 use Rattle.dcr_proj.specs.CoverValue.{Owners}
 use Rattle.dcr_shape.specs.Case.{shape_in}
-use Rattle.dcr_shape.specs.Stages.{after}
+use Rattle.dcr_shape.specs.Stages.{next_stage}
 use Rattle.dcr_shape.specs.declared.stop.LimitKind.{LimitKind}
 use Rattle.dcr_shape.specs.declared.stop.ReadStop.{ReadStop}
 use Rattle.dcr_shape.specs.declared.stop.ReadStop.TheVariants as read
@@ -33,7 +33,7 @@ use Rattle.dcr_cover.proofs.RefusalLemmas.{refuses_name, name_refused, refuses_t
 use Rattle.dcr_journal.specs.declared.call.Call.{Call}
 use Rattle.dcr_reading.specs.Accepted.{atom_names}
 use Rattle.dcr_json.specs.Case.{value_in, case_in}
-use Rattle.dcr_json.specs.Judged.{Spelled, name_at, by_clash, by_cover, unclashed, owners_in, sessions_told, judged}
+use Rattle.dcr_json.specs.Judged.{Spelled, name_at, by_clash, by_cover, unclashed, owners_in, sessions_told, case_told}
 use Rattle.dcr_json.specs.Refusing.{found_or, lifted, stop_of}
 use Rattle.dcr_json.specs.Refusals.{SpellsJson, Writes, HasNodes, IsUnclashed, sites_of, HasCover, Comes, SpellsCase, RefusalsAreTheFormats, CasesAreTheFormats, OneOfTheTwo}
 use Rattle.dcr_json.specs.declared.case.CaseStop.{CaseStop}
@@ -52,13 +52,13 @@ many : (bytes : List ℕ) → 16777216 < length bytes → nat_le (length bytes) 
 many bytes l = elim (leb_tells (length bytes) 16777216) [ inl h ↦ absurd (let less = h.1 in omega arith) | inr h ↦ h.0 ]
 
 abbrev from_text : List ℕ → Result Spelled CaseStop
-from_text text = after value_in (found_or NotJson (json_in text))
+from_text text = next_stage value_in (found_or NotJson (json_in text))
 
 abbrev from_nodes : Written → Result Spelled CaseStop
-from_nodes w = after (judged w) (lifted (nodes_in w))
+from_nodes w = next_stage (case_told w) (lifted (nodes_in w))
 
 abbrev from_written : Written → Result Spelled CaseStop
-from_written w = after (λ _. from_nodes w) (lifted (limits_in w))
+from_written w = next_stage (λ _. from_nodes w) (lifted (limits_in w))
 
 abbrev spelled_with : Nest → Owners → Marking → List (List Call) → Spelled
 spelled_with nested owners opening sessions = record { nested = nested; cover = owners; opening = opening; sessions = sessions }
@@ -67,44 +67,44 @@ abbrev spelled_by : Nodes → Owners → List (List Call) → Spelled
 spelled_by nodes owners sessions = spelled_with nodes.nested owners nodes.opening sessions
 
 abbrev from_cover : Written → Nodes → Owners → Result Spelled CaseStop
-from_cover w nodes owners = after (λ sessions. Ok (spelled_by nodes owners sessions)) (sessions_told owners.names (atom_names nodes.nested) w.sessions)
+from_cover w nodes owners = next_stage (λ sessions. Ok (spelled_by nodes owners sessions)) (sessions_told owners.names (atom_names nodes.nested) w.sessions)
 
 abbrev from_unclashed : Written → Nodes → Result Spelled CaseStop
-from_unclashed w nodes = after (from_cover w nodes) (owners_in nodes.nested w.sites)
+from_unclashed w nodes = next_stage (from_cover w nodes) (owners_in nodes.nested w.sites)
 
-bytes_so : (bytes : List ℕ) (b : Bool) → nat_le (length bytes) 16777216 ≡ b → case_in bytes ≡ after from_text (cond b (Ok bytes) (Err TooLong))
+bytes_so : (bytes : List ℕ) (b : Bool) → nat_le (length bytes) 16777216 ≡ b → case_in bytes ≡ next_stage from_text (cond b (Ok bytes) (Err TooLong))
 unfolding case_in
-bytes_so bytes b e = ap (λ c. after from_text (cond c (Ok bytes) (Err TooLong))) e
+bytes_so bytes b e = ap (λ c. next_stage from_text (cond c (Ok bytes) (Err TooLong))) e
 
 text_so : (bytes : List ℕ) → length bytes ≤ 16777216 → case_in bytes ≡ from_text bytes
 text_so bytes l = bytes_so bytes true (few bytes l)
 
 value_so : (bytes : List ℕ) (d : Data) → SpellsJson bytes d → case_in bytes ≡ value_in d
-value_so bytes d h = text_so bytes h.short ∙ ap (λ o. after value_in (found_or NotJson o)) h.json
+value_so bytes d h = text_so bytes h.short ∙ ap (λ o. next_stage value_in (found_or NotJson o)) h.json
 
-shape_so : (d : Data) (r : Result Written ReadStop) → shape_in d ≡ r → value_in d ≡ after from_written (lifted r)
+shape_so : (d : Data) (r : Result Written ReadStop) → shape_in d ≡ r → value_in d ≡ next_stage from_written (lifted r)
 unfolding value_in
-shape_so d r e = ap (λ s. after from_written (lifted s)) e
+shape_so d r e = ap (λ s. next_stage from_written (lifted s)) e
 
 written_so : (bytes : List ℕ) (w : Written) → Writes bytes w → case_in bytes ≡ from_written w
 written_so bytes w h = value_so bytes h.value h.spelled ∙ shape_so h.value (Ok w) ((contained h.value w).1 h.contains)
 
 limits_so : (bytes : List ℕ) (w : Written) → Writes bytes w → ((kind : LimitKind) → KeepsLimit w kind) → case_in bytes ≡ from_nodes w
-limits_so bytes w h kept = written_so bytes w h ∙ ap (λ r. after (λ _. from_nodes w) (lifted r)) ((limits_law w).given.1 kept).1
+limits_so bytes w h kept = written_so bytes w h ∙ ap (λ r. next_stage (λ _. from_nodes w) (lifted r)) ((limits_law w).given.1 kept).1
 
-nodes_so : (bytes : List ℕ) (w : Written) (nodes : Nodes) → HasNodes bytes w nodes → case_in bytes ≡ judged w nodes
-nodes_so bytes w nodes h = limits_so bytes w h.written h.limits ∙ ap (λ r. after (judged w) (lifted r)) ((nodes_written w nodes).1 h.are)
+nodes_so : (bytes : List ℕ) (w : Written) (nodes : Nodes) → HasNodes bytes w nodes → case_in bytes ≡ case_told w nodes
+nodes_so bytes w nodes h = limits_so bytes w h.written h.limits ∙ ap (λ r. next_stage (case_told w) (lifted r)) ((nodes_written w nodes).1 h.are)
 
-clash_so : (w : Written) (nodes : Nodes) (o : Option (ℕ × ℕ)) → first_clash (flat_relation nodes.nested) ≡ o → judged w nodes ≡ after (λ _. from_unclashed w nodes) (by_clash (atom_names nodes.nested) o)
-unfolding judged unclashed
-clash_so w nodes o e = ap (λ p. after (λ _. from_unclashed w nodes) (by_clash (atom_names nodes.nested) p)) e
+clash_so : (w : Written) (nodes : Nodes) (o : Option (ℕ × ℕ)) → first_clash (flat_relation nodes.nested) ≡ o → case_told w nodes ≡ next_stage (λ _. from_unclashed w nodes) (by_clash (atom_names nodes.nested) o)
+unfolding case_told unclashed
+clash_so w nodes o e = ap (λ p. next_stage (λ _. from_unclashed w nodes) (by_clash (atom_names nodes.nested) p)) e
 
 unclashed_so : (bytes : List ℕ) (w : Written) (nodes : Nodes) → IsUnclashed bytes w nodes → case_in bytes ≡ from_unclashed w nodes
 unclashed_so bytes w nodes h = nodes_so bytes w nodes h.before ∙ clash_so w nodes None (no_clash_told (flat_relation nodes.nested) h.apart)
 
-cover_so : (w : Written) (nodes : Nodes) (r : Result Owners CoverStop) → cover_told nodes.nested (sites_of w) ≡ r → from_unclashed w nodes ≡ after (from_cover w nodes) (by_cover (atom_names nodes.nested) r)
+cover_so : (w : Written) (nodes : Nodes) (r : Result Owners CoverStop) → cover_told nodes.nested (sites_of w) ≡ r → from_unclashed w nodes ≡ next_stage (from_cover w nodes) (by_cover (atom_names nodes.nested) r)
 unfolding owners_in
-cover_so w nodes r e = ap (λ s. after (from_cover w nodes) (by_cover (atom_names nodes.nested) s)) e
+cover_so w nodes r e = ap (λ s. next_stage (from_cover w nodes) (by_cover (atom_names nodes.nested) s)) e
 
 covered_so : (bytes : List ℕ) (w : Written) (nodes : Nodes) (owners : Owners) → HasCover bytes w nodes owners → case_in bytes ≡ from_cover w nodes owners
 covered_so bytes w nodes owners h = unclashed_so bytes w nodes h.before ∙ cover_so w nodes (Ok owners) (told_from_cover nodes.nested (sites_of w) owners h.are)
@@ -113,19 +113,19 @@ covered_so bytes w nodes owners h = unclashed_so bytes w nodes h.before ∙ cove
 
 stopped : (bytes : List ℕ) (w : Written) (nodes : Nodes) (stop : CoverStop) (refusal : CaseStop) → IsUnclashed bytes w nodes → cover_told nodes.nested (sites_of w) ≡ Err stop
     → by_cover (atom_names nodes.nested) (Err stop) ≡ Err refusal → case_in bytes ≡ Err refusal
-stopped bytes w nodes stop refusal h told is = unclashed_so bytes w nodes h ∙ cover_so w nodes (Err stop) told ∙ ap (after (from_cover w nodes)) is
+stopped bytes w nodes stop refusal h told is = unclashed_so bytes w nodes h ∙ cover_so w nodes (Err stop) told ∙ ap (next_stage (from_cover w nodes)) is
 
 node_refused : (bytes : List ℕ) (w : Written) (stop : ReadStop) → Writes bytes w → ((kind : LimitKind) → KeepsLimit w kind) → nodes_in w ≡ Err stop → case_in bytes ≡ Err (stop_of stop)
-node_refused bytes w stop h kept e = limits_so bytes w h kept ∙ ap (λ r. after (judged w) (lifted r)) e
+node_refused bytes w stop h kept e = limits_so bytes w h kept ∙ ap (λ r. next_stage (case_told w) (lifted r)) e
 
 clash_named : (a b source target : List ℕ) → source ≡ a → target ≡ b → (let r : Result Spelled CaseStop = Err (Clash a b) in r) ≡ Err (Clash source target)
 clash_named a b source target e f = ap (λ name. Err (Clash name b)) (sym e) ∙ ap (λ name. Err (Clash source name)) (sym f)
 
 pub comes : (bytes : List ℕ) (stop : CaseStop) → Comes bytes stop → case_in bytes ≡ Err stop
 comes bytes TooLong h = bytes_so bytes false (many bytes h)
-comes bytes NotJson h = text_so bytes h.0 ∙ ap (λ o. after value_in (found_or NotJson o)) h.1
+comes bytes NotJson h = text_so bytes h.0 ∙ ap (λ o. next_stage value_in (found_or NotJson o)) h.1
 comes bytes (Shape part i) h = value_so bytes h.0 h.1 ∙ shape_so h.0 (Err (read.Shape part i)) (((shape_law h.0).refused part i).1 h.2)
-comes bytes (Limit kind count) h = written_so bytes h.0 h.1 ∙ ap (λ r. after (λ _. from_nodes h.0) (lifted r)) (((limits_law h.0).refused kind count).1 h.2)
+comes bytes (Limit kind count) h = written_so bytes h.0 h.1 ∙ ap (λ r. next_stage (λ _. from_nodes h.0) (lifted r)) (((limits_law h.0).refused kind count).1 h.2)
 comes bytes (EventName i) h = node_refused bytes h.written (read.EventName i) h.file h.limits (((nodes_law h.written).refused OfEventName i).1 h.first)
 comes bytes (Parent i) h = node_refused bytes h.written (read.Parent i) h.file h.limits (((nodes_law h.written).refused OfParent i).1 h.first)
 comes bytes (MarkOnNest i) h = node_refused bytes h.written (read.MarkOnNest i) h.file h.limits (((nodes_law h.written).refused OfMarkOnNest i).1 h.first)
@@ -141,7 +141,7 @@ comes bytes (CallLine k j) h =
     let known = atoms_are_names h.written h.nodes ((nodes_written h.written h.nodes).1 h.file.before.before.are) in
     let sites = sites_are_names h.written h.nodes h.cover h.file.are in
     covered_so bytes h.written h.nodes h.cover h.file
-    ∙ ap (after (λ sessions. Ok (spelled_by h.nodes h.cover sessions))) (no_call_told h.cover.names (atom_names h.nodes.nested) sites known h.written.sessions k j h.first)
+    ∙ ap (next_stage (λ sessions. Ok (spelled_by h.nodes h.cover sessions))) (no_call_told h.cover.names (atom_names h.nodes.nested) sites known h.written.sessions k j h.first)
 comes bytes NoMemory h = absurd h
 
 -- the case that is spelled is given
@@ -151,7 +151,7 @@ spells bytes spelled h =
     let known = atoms_are_names h.written h.nodes ((nodes_written h.written h.nodes).1 h.file.before.before.are) in
     let sites = sites_are_names h.written h.nodes spelled.cover h.file.are in
     let told = ap (sessions_told spelled.cover.names names) h.texts ∙ texts_read spelled.cover.names names sites known spelled.sessions h.in_range in
-    let whole = covered_so bytes h.written h.nodes spelled.cover h.file ∙ ap (after (λ sessions. Ok (spelled_by h.nodes spelled.cover sessions))) told in
+    let whole = covered_so bytes h.written h.nodes spelled.cover h.file ∙ ap (next_stage (λ sessions. Ok (spelled_by h.nodes spelled.cover sessions))) told in
     let same : spelled_by h.nodes spelled.cover spelled.sessions ≡ spelled =
     ap (λ nested. spelled_with nested spelled.cover h.nodes.opening spelled.sessions) (sym h.nested) ∙ ap (λ opening. spelled_with spelled.nested spelled.cover opening spelled.sessions) (sym h.opening) in
     whole ∙ ap Ok same
@@ -190,7 +190,7 @@ judge_cover bytes w nodes owners h =
     at (sessions_end owners.names (atom_names nodes.nested) (sites_are_names w nodes owners h.are) (atoms_are_names w nodes ((nodes_written w nodes).1 h.before.before.are)) w.sessions)
   where
     at : SessionsEnd owners.names (atom_names nodes.nested) w.sessions → Verdict bytes
-    at (all_calls calls e all) = given (spelled_by nodes owners calls) (covered_so bytes w nodes owners h ∙ ap (after (λ sessions. Ok (spelled_by nodes owners sessions))) e) (record {
+    at (all_calls calls e all) = given (spelled_by nodes owners calls) (covered_so bytes w nodes owners h ∙ ap (next_stage (λ sessions. Ok (spelled_by nodes owners sessions))) e) (record {
       written = w;
       nodes = nodes;
       file = h;

@@ -7,7 +7,7 @@ use Rattle.dcr_shape.specs.Stages.{◌>>=◌}
 use Rattle.dcr_limit.specs.Limits.{limits_in}
 use Rattle.dcr_nodes.specs.Nodes.{nodes_in}
 use Rattle.dcr_json.specs.Refusing.{found_or, lifted}
-use Rattle.dcr_json.specs.Judged.{Spelled, judged}
+use Rattle.dcr_json.specs.Judged.{Spelled, case_told}
 use Rattle.dcr_json.specs.declared.case.CaseStop.{CaseStop}
 use Rattle.dcr_json.specs.declared.case.CaseStop.TheVariants.{TooLong, NotJson}
 
@@ -21,7 +21,7 @@ value_in d = do
   written ← lifted (shape_in d)
   kept ← lifted (limits_in written)
   nodes ← lifted (nodes_in written)
-  judged written nodes
+  case_told written nodes
 
 -- the case, or the first refusal
 unfoldable pub case_in : List ℕ → Result Spelled CaseStop

@@ -62,8 +62,8 @@ session_told sites names k texts = each_from (call_told sites names k) 0 texts
 unfoldable pub sessions_told : List (List ℕ) → List (List ℕ) → List (List (List ℕ)) → Result (List (List Call)) CaseStop
 sessions_told sites names sessions = each_from (session_told sites names) 0 sessions
 
-unfoldable pub judged : Written → Nodes → Result Spelled CaseStop
-judged w nodes = do
+unfoldable pub case_told : Written → Nodes → Result Spelled CaseStop
+case_told w nodes = do
   apart ← unclashed nodes.nested
   owners ← owners_in nodes.nested w.sites
   sessions ← sessions_told owners.names (atom_names nodes.nested) w.sessions

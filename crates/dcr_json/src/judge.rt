@@ -5,7 +5,7 @@ ghost use Rattle.dcr_nest.specs.FlatRelation.{IsFlattening, flat_relation};
 ghost use Rattle.dcr_nodes.specs.Nodes.{nodes_in};
 ghost use Rattle.dcr_reading.specs.Accepted.{atom_names};
 ghost use Rattle.dcr_json.specs.Built.{case_of, IsCase};
-ghost use Rattle.dcr_json.specs.Judged.{judged, name_at, unclashed};
+ghost use Rattle.dcr_json.specs.Judged.{case_told, name_at, unclashed};
 ghost use Rattle.dcr_json.specs.Refusing.{Says};
 
 use crate::calls::read_sessions;
@@ -21,11 +21,11 @@ use std::alloc::Global;
 
 // The case that is written in a file within the limits and with these nodes, or what it is refused for: a
 // clash, then a cover that is none, then a line that is no call.
-#[tactic(auto, unfolding(crate::specs::Judged::judged))]
+#[tactic(auto, unfolding(crate::specs::Judged::case_told))]
 pub(crate) fn judge(alloc: Global, written: &Written<'_>, nodes: Nodes) -> Result<Case, CaseStop>
     requires limits { limits_in written.now ≡ Ok tt }
     requires nodes { nodes_in written.now ≡ Ok nodes }
-    ensures says { Says case_of result (judged written.now nodes) }
+    ensures says { Says case_of result (case_told written.now nodes) }
     ensures fits { IfOk result IsCase }
 {
     let Nodes { nested, opening } = nodes;

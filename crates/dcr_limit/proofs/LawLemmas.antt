@@ -6,7 +6,7 @@ use Rattle.std.proofs.lemmas.Bool.{cases_lt, leb-true}
 use Rattle.std.proofs.lemmas.Bool.Decides.{leb_tells}
 use Rattle.std.proofs.lemmas.Option.{get_or_from_slice_get, slice_get-get_or, slice_get_within, same_Some}
 use Rattle.dcr_shape.specs.Parts.{Event, no_event}
-use Rattle.dcr_shape.specs.Stages.{after}
+use Rattle.dcr_shape.specs.Stages.{next_stage}
 use Rattle.dcr_shape.specs.declared.stop.LimitKind.{LimitKind}
 use Rattle.dcr_shape.specs.declared.stop.LimitKind.TheVariants as kind
 use Rattle.dcr_shape.specs.declared.stop.ReadStop.{ReadStop}
@@ -65,7 +65,7 @@ labels_outcome (event ∷ events) = at (label_outcome event.label) (labels_outco
   where
     at : Outcome (Limit kind.Label) (label_in event.label) (HasShortLabel event) (λ bytes. (text : List ℕ) × (event.label ≡ Some text) × (length text ≡ bytes) × (200 < bytes)) → Outcome (Limit kind.Label) (labels_in events) (AllShort events) (IsFirstTooLong events)
         → Outcome (Limit kind.Label) (labels_in (event ∷ events)) (AllShort (event ∷ events)) (IsFirstTooLong (event ∷ events))
-    at (failed bytes e long) more = failed bytes (ap (after (λ _. labels_in events)) e) (record {
+    at (failed bytes e long) more = failed bytes (ap (next_stage (λ _. labels_in events)) e) (record {
       index = 0;
       event = event;
       text = long.0;
@@ -75,8 +75,8 @@ labels_outcome (event ∷ events) = at (label_outcome event.label) (labels_outco
       too_long = long.3;
       earlier = λ j other l is. absurd (omega arith);
     })
-    at (passed x e short) (passed y f all) = passed y (ap (after (λ _. labels_in events)) e ∙ f) (all_short event events short all)
-    at (passed x e short) (failed bytes f first) = failed bytes (ap (after (λ _. labels_in events)) e ∙ f) (record {
+    at (passed x e short) (passed y f all) = passed y (ap (next_stage (λ _. labels_in events)) e ∙ f) (all_short event events short all)
+    at (passed x e short) (failed bytes f first) = failed bytes (ap (next_stage (λ _. labels_in events)) e ∙ f) (record {
       index = suc first.index;
       event = first.event;
       text = first.text;
@@ -188,7 +188,7 @@ outside count found (is, inr more) = (is, inr more)
 
 -- one count and the limits after it
 count_stage : (w : Written) (k : LimitKind) (least most count : ℕ) (f : Unit {0} → Result (Unit {0}) ReadStop) → (IsWithin least most count → KeepsLimit w k) → ((found : ℕ) → IsOutside least most count found → BreaksLimit w k found)
-    → UpTo rank (KeepsLimit w) (rank k) → ((x : Unit {0}) → UpTo rank (KeepsLimit w) (rank k + 1) → Ends rank Limit (KeepsLimit w) (BreaksLimit w) (f x)) → Ends rank Limit (KeepsLimit w) (BreaksLimit w) (after f (within k least most count))
+    → UpTo rank (KeepsLimit w) (rank k) → ((x : Unit {0}) → UpTo rank (KeepsLimit w) (rank k + 1) → Ends rank Limit (KeepsLimit w) (BreaksLimit w) (f x)) → Ends rank Limit (KeepsLimit w) (BreaksLimit w) (next_stage f (within k least most count))
 count_stage w k least most count f keeps breaks before next =
     stage rank Limit (KeepsLimit w) (BreaksLimit w) (limits_ordered w) k (within k least most count) f (IsWithin least most count) (IsOutside least most count) (within_outcome k least most count) keeps breaks before (λ x e up. next x up)
 

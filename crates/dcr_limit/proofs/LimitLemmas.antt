@@ -11,7 +11,7 @@ use Rattle.dcr_graph.specs.Names.{number_of}
 use Rattle.dcr_graph.proofs.NamesLemmas.{place_is}
 use Rattle.dcr_shape.specs.declared.stop.LimitKind.TheVariants as kind
 use Rattle.dcr_shape.specs.Parts.{Event}
-use Rattle.dcr_shape.specs.Stages.{after}
+use Rattle.dcr_shape.specs.Stages.{next_stage}
 use Rattle.dcr_shape.specs.declared.stop.ReadStop.{ReadStop}
 use Rattle.dcr_limit.specs.Limits.{label_in, labels_in, within, atoms_in, names_parent}
 
@@ -22,11 +22,11 @@ element_at events i event is = drop_more events i event (slice_get_within events
 
 -- the labels from i on, where the one at i is within its bound
 pub labels_step : (events : List Event) (i : ℕ) (event : Event) → slice_get events i ≡ Some event → label_in event.label ≡ Ok tt → labels_in (drop i events) ≡ labels_in (drop (i + 1) events)
-labels_step events i event is e = ap labels_in (element_at events i event is) ∙ ap (after (λ _. labels_in (drop (i + 1) events))) e
+labels_step events i event is e = ap labels_in (element_at events i event is) ∙ ap (next_stage (λ _. labels_in (drop (i + 1) events))) e
 
 -- and where it is not
 pub labels_stop : (events : List Event) (i : ℕ) (event : Event) (stop : ReadStop) → slice_get events i ≡ Some event → label_in event.label ≡ Err stop → labels_in (drop i events) ≡ Err stop
-labels_stop events i event stop is e = ap labels_in (element_at events i event is) ∙ ap (after (λ _. labels_in (drop (i + 1) events))) e
+labels_stop events i event stop is e = ap labels_in (element_at events i event is) ∙ ap (next_stage (λ _. labels_in (drop (i + 1) events))) e
 
 -- ---- parents
 

@@ -21,7 +21,7 @@ use Rattle.dcr_nest.specs.declared.node.Node.{Node}
 use Rattle.dcr_nest.proofs.AtomLemmas.{atoms-within}
 use Rattle.dcr_shape.specs.Contents.{AreBeside}
 use Rattle.dcr_shape.specs.Parts.{Event, Relation, no_event}
-use Rattle.dcr_shape.specs.Stages.{after, each_from}
+use Rattle.dcr_shape.specs.Stages.{next_stage, each_from}
 use Rattle.dcr_shape.specs.declared.stop.ReadStop.{ReadStop}
 use Rattle.dcr_shape.specs.declared.stop.ReadStop.TheVariants.{RelationEnd}
 use Rattle.dcr_shape.specs.declared.written.Written.{Written}
@@ -59,7 +59,7 @@ parent_named names i written parent (has_parent text p w n found) =
 node_is : (events : List Event) (i : ℕ) (event : Event) (node : Node) → node_in (names_of events) i event ≡ Ok node → IsNodeOf events event node
 node_is events i event node e = at (parent_in (names_of events) i event.parent) refl e
   where
-    at : (r : Result (Option ℕ) ReadStop) → parent_in (names_of events) i event.parent ≡ r → after (λ parent. Ok (node_with event parent)) r ≡ Ok node → IsNodeOf events event node
+    at : (r : Result (Option ℕ) ReadStop) → parent_in (names_of events) i event.parent ≡ r → next_stage (λ parent. Ok (node_with event parent)) r ≡ Ok node → IsNodeOf events event node
     at (Err stop) is h = absurd cc
     at (Ok parent) is h =
         let same : node_with event parent ≡ node = cc in
@@ -115,7 +115,7 @@ pair_is : (events : List Event) (i : ℕ) (relation : Relation) (pair : Pair) �
 pair_is events i relation pair e = at (end_in (names_of events) i relation.source) (end_in (names_of events) i relation.target) refl refl e
   where
     at : (r s : Result ℕ ReadStop) → end_in (names_of events) i relation.source ≡ r → end_in (names_of events) i relation.target ≡ s
-        → after (λ source. after (λ target. Ok (relation.kind, source, target)) s) r ≡ Ok pair → IsPairOf events relation pair
+        → next_stage (λ source. next_stage (λ target. Ok (relation.kind, source, target)) s) r ≡ Ok pair → IsPairOf events relation pair
     at (Err stop) s is too h = absurd cc
     at (Ok a) (Err stop) is too h = absurd cc
     at (Ok a) (Ok b) is too h =
@@ -191,7 +191,7 @@ same_opening atoms events M N among h k =
 
 -- ---- the whole
 
-stage_gave : {A B E : Type 0} (r : Result A E) (f : A → Result B E) (y : B) → after f r ≡ Ok y → (x : A) × (r ≡ Ok x) × (f x ≡ Ok y)
+stage_gave : {A B E : Type 0} (r : Result A E) (f : A → Result B E) (y : B) → next_stage f r ≡ Ok y → (x : A) × (r ≡ Ok x) × (f x ≡ Ok y)
 stage_gave (Ok x) f y e = (x, refl, e)
 stage_gave (Err stop) f y e = absurd cc
 

@@ -14,7 +14,7 @@ use Rattle.dcr_shape.specs.Case.{shape_in}
 use Rattle.dcr_shape.specs.Members.{elements}
 use Rattle.dcr_shape.specs.Parts.{Relation, top_in, graph_in, event_in, kind_named, ends_in, relation_in, cover_in, site_in, sessions_in, texts_in}
 use Rattle.dcr_shape.specs.Shape.{shaped, each_shaped}
-use Rattle.dcr_shape.specs.Stages.{after, each_from}
+use Rattle.dcr_shape.specs.Stages.{next_stage, each_from}
 use Rattle.dcr_shape.specs.declared.stop.Part.TheVariants as part
 use Rattle.dcr_shape.specs.declared.stop.ReadStop.{ReadStop}
 use Rattle.dcr_shape.specs.declared.version.Version.TheVariants.{V1}
@@ -67,7 +67,7 @@ all_without n (d ∷ ds) relations e =
     All-same NoCancel relations (p.0 ∷ p.1) (sym p.4) (All-cons NoCancel p.0 p.1 (relation_without d p.0 (shaped_is (relation_in V1 d) _ p.0 p.2)) (all_without (n + 1) ds p.1 p.3))
 
 -- the stage before gave something, and this one what is given
-after_some : {A B : Type 0} (f : A → Result B ReadStop) (r : Result A ReadStop) (y : B) → after f r ≡ Ok y → {C : Type 0} → ((x : A) → r ≡ Ok x → f x ≡ Ok y → C) → C
+after_some : {A B : Type 0} (f : A → Result B ReadStop) (r : Result A ReadStop) (y : B) → next_stage f r ≡ Ok y → {C : Type 0} → ((x : A) → r ≡ Ok x → f x ≡ Ok y → C) → C
 after_some f (Err e) y h next = absurd cc
 after_some f (Ok x) y h next = next x refl h
 

@@ -5,7 +5,7 @@ use Rattle.std.specs.Prelude.{IfSome}
 use Rattle.dcr_graph.specs.Names.{is_name, number_of}
 use Rattle.dcr_shape.specs.Order.{EachAt, FailsFirst}
 use Rattle.dcr_shape.specs.Parts.{Event, Relation}
-use Rattle.dcr_shape.specs.Stages.{after, each_from}
+use Rattle.dcr_shape.specs.Stages.{next_stage, each_from}
 use Rattle.dcr_shape.specs.declared.stop.ReadStop.{ReadStop}
 use Rattle.dcr_shape.specs.declared.stop.ReadStop.TheVariants.{EventName, Parent, MarkOnNest, RelationEnd}
 use Rattle.dcr_shape.specs.declared.written.Written.{Written}
@@ -13,7 +13,7 @@ use Rattle.dcr_shape.proofs.EachLemmas.{OneRead, went, halted, EachRead, all_rea
 use Rattle.dcr_shape.proofs.OrderLemmas.{Outcome, passed, failed, not_each, least_alone, Ends, all_hold, IsOrder, up_to_none, stage, refuses_first}
 use Rattle.dcr_limit.specs.Limits.{names_parent}
 use Rattle.dcr_nodes.specs.Laws.{rank, NodesAreTheFormats}
-use Rattle.dcr_nodes.specs.Nodes.{names_of, number_before, name_in, names_in, parent_in, node_with, node_in, tree_in, writes_mark, mark_in, marks_in, end_in, pair_in, relations_in, nodes_in}
+use Rattle.dcr_nodes.specs.Nodes.{names_of, number_before, name_in, names_in, parent_in, node_with, node_in, tree_in, writes_mark, unmarked_in, marks_in, end_in, pair_in, relations_in, nodes_in}
 use Rattle.dcr_nodes.specs.Words.{IsEarlierName, IsEventName, HasNewName, HasEarlierParent, HasNoMark, HasNoMarkAsParent, HasEnds, Refusal, OfEventName, OfParent, OfMarkOnNest, OfRelationEnd, refused, Holds, FailsAt}
 use Rattle.dcr_nodes.proofs.NameLemmas.{is_earlier, not_earlier, is_event, not_event, is_parent_name, not_parent_name}
 
@@ -63,8 +63,8 @@ node_step : (events : List Event) (i : ℕ) (event : Event) → Step (Parent i) 
 node_step events i event = at (parent_step events i event.parent)
   where
     at : Step (Parent i) (parent_in (names_of events) i event.parent) (IfSome event.parent (IsEarlierName events i)) → Step (Parent i) (node_in (names_of events) i event) (HasEarlierParent events i event)
-    at (went parent e h) = went (node_with event parent) (ap (after (λ parent. Ok (node_with event parent))) e) h
-    at (halted refusal e why) = halted refusal (ap (after (λ parent. Ok (node_with event parent))) e) why
+    at (went parent e h) = went (node_with event parent) (ap (next_stage (λ parent. Ok (node_with event parent))) e) h
+    at (halted refusal e why) = halted refusal (ap (next_stage (λ parent. Ok (node_with event parent))) e) why
 
 -- ---- the marks
 
@@ -89,10 +89,10 @@ some_mark event e without =
     let never : writes_mark event ≡ false = rw (without.executed, without.pending, without.included) refl in
     let bad = sym e ∙ never in cc
 
-mark_step : (events : List Event) (i : ℕ) (event : Event) → Step (MarkOnNest i) (mark_in events i event) (HasNoMarkAsParent events i event)
+mark_step : (events : List Event) (i : ℕ) (event : Event) → Step (MarkOnNest i) (unmarked_in events i event) (HasNoMarkAsParent events i event)
 mark_step events i event = at (list_any (names_parent event.name) events) (writes_mark event) refl refl
   where
-    at : (b c : Bool) → list_any (names_parent event.name) events ≡ b → writes_mark event ≡ c → Step (MarkOnNest i) (mark_in events i event) (HasNoMarkAsParent events i event)
+    at : (b c : Bool) → list_any (names_parent event.name) events ≡ b → writes_mark event ≡ c → Step (MarkOnNest i) (unmarked_in events i event) (HasNoMarkAsParent events i event)
     at false c e f = went tt (rw e refl) (λ is. absurd (not_parent_name events event.name e is))
     at true false e f = went tt (rw (e, f) refl) (λ is. no_mark event f)
     at true true e f = halted _ (rw (e, f) refl) (refl, λ h. some_mark event f (h (is_parent_name events event.name e)))
@@ -102,12 +102,12 @@ done_with xs = Ok tt
 
 marks_outcome : (events : List Event) → Outcome MarkOnNest (marks_in events) (EachAt (HasNoMarkAsParent events) events) (FailsFirst (HasNoMarkAsParent events) events)
 unfolding marks_in done_with
-marks_outcome events = at (each_outcome MarkOnNest (mark_in events) (HasNoMarkAsParent events) (mark_step events) events)
+marks_outcome events = at (each_outcome MarkOnNest (unmarked_in events) (HasNoMarkAsParent events) (mark_step events) events)
   where
-    at : Outcome MarkOnNest (each_from (mark_in events) 0 events) (EachAt (HasNoMarkAsParent events) events) (FailsFirst (HasNoMarkAsParent events) events)
-        → Outcome MarkOnNest (after done_with (each_from (mark_in events) 0 events)) (EachAt (HasNoMarkAsParent events) events) (FailsFirst (HasNoMarkAsParent events) events)
-    at (passed xs e h) = passed tt (ap (after done_with) e) h
-    at (failed i e h) = failed i (ap (after done_with) e) h
+    at : Outcome MarkOnNest (each_from (unmarked_in events) 0 events) (EachAt (HasNoMarkAsParent events) events) (FailsFirst (HasNoMarkAsParent events) events)
+        → Outcome MarkOnNest (next_stage done_with (each_from (unmarked_in events) 0 events)) (EachAt (HasNoMarkAsParent events) events) (FailsFirst (HasNoMarkAsParent events) events)
+    at (passed xs e h) = passed tt (ap (next_stage done_with) e) h
+    at (failed i e h) = failed i (ap (next_stage done_with) e) h
 
 -- ---- the ends
 

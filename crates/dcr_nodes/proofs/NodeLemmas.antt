@@ -20,7 +20,7 @@ use Rattle.dcr_nest.specs.declared.node.Version.TheVariants as nested
 use Rattle.dcr_nest.proofs.AtomLemmas.{picked, picked-no, length-picked_yes}
 use Rattle.dcr_nest.proofs.TreeLemmas.{parent_within}
 use Rattle.dcr_shape.specs.Parts.{Event, Relation, no_event, no_relation}
-use Rattle.dcr_shape.specs.Stages.{after, each_from}
+use Rattle.dcr_shape.specs.Stages.{next_stage, each_from}
 use Rattle.dcr_shape.specs.declared.stop.LimitKind.TheVariants as kind
 use Rattle.dcr_shape.specs.declared.stop.ReadStop.{ReadStop}
 use Rattle.dcr_shape.specs.declared.stop.ReadStop.TheVariants.{EventName, Parent, MarkOnNest, RelationEnd}
@@ -31,7 +31,7 @@ use Rattle.dcr_limit.specs.Limits.{atoms_in, limits_in, names_parent}
 use Rattle.dcr_limit.specs.Words.{KeepsLimit}
 use Rattle.dcr_limit.proofs.LawLemmas.{limits_law}
 use Rattle.dcr_nodes.specs.Kinds.{HasKindsOfVersion}
-use Rattle.dcr_nodes.specs.Nodes.{names_of, number_before, name_in, names_in, parent_in, node_with, node_in, tree_in, mark_in, writes_mark, end_in, pair_in, relations_in, version_in}
+use Rattle.dcr_nodes.specs.Nodes.{names_of, number_before, name_in, names_in, parent_in, node_with, node_in, tree_in, unmarked_in, writes_mark, end_in, pair_in, relations_in, version_in}
 use Rattle.dcr_nodes.proofs.NameLemmas.{found_before, none_before, name_at}
 use Rattle.dcr_nodes.proofs.StageLemmas.{ok_parts, each_read, from_length}
 
@@ -104,7 +104,7 @@ record IsNodeOf (names : List (List ℕ)) (i : ℕ) (event : Event) (node : Node
 node_of : (names : List (List ℕ)) (i : ℕ) (event : Event) (node : Node) → node_in names i event ≡ Ok node → IsNodeOf names i event node
 node_of names i event node e = at (parent_in names i event.parent) refl e
   where
-    at : (r : Result (Option ℕ) ReadStop) → parent_in names i event.parent ≡ r → after (λ parent. Ok (node_with event parent)) r ≡ Ok node → IsNodeOf names i event node
+    at : (r : Result (Option ℕ) ReadStop) → parent_in names i event.parent ≡ r → next_stage (λ parent. Ok (node_with event parent)) r ≡ Ok node → IsNodeOf names i event node
     at (Err stop) is h = absurd cc
     at (Ok parent) is h =
         let same : node_with event parent ≡ node = cc in
@@ -231,7 +231,7 @@ pair_of : (names : List (List ℕ)) (i : ℕ) (relation : Relation) (pair : Pair
 pair_of names i relation pair e = at (end_in names i relation.source) (end_in names i relation.target) refl refl e
   where
     at : (r s : Result ℕ ReadStop) → end_in names i relation.source ≡ r → end_in names i relation.target ≡ s
-        → after (λ source. after (λ target. Ok (relation.kind, source, target)) s) r ≡ Ok pair → IsPairOf names relation pair
+        → next_stage (λ source. next_stage (λ target. Ok (relation.kind, source, target)) s) r ≡ Ok pair → IsPairOf names relation pair
     at (Err stop) s is too h = absurd cc
     at (Ok a) (Err stop) is too h = absurd cc
     at (Ok a) (Ok b) is too h =
@@ -290,8 +290,8 @@ is_nested w names nodes pairs limits kinds e f g =
 -- ---- the marks
 
 -- what is a parent and has a mark is refused
-pub mark_found : (events : List Event) (i : ℕ) (event : Event) → list_any (names_parent event.name) events ≡ true → writes_mark event ≡ true → mark_in events i event ≡ Err (MarkOnNest i)
+pub mark_found : (events : List Event) (i : ℕ) (event : Event) → list_any (names_parent event.name) events ≡ true → writes_mark event ≡ true → unmarked_in events i event ≡ Err (MarkOnNest i)
 mark_found events i event e f = rw (e, f) refl
 
-pub mark_passed : (events : List Event) (i : ℕ) (event : Event) → (list_any (names_parent event.name) events && writes_mark event) ≡ false → mark_in events i event ≡ Ok tt
+pub mark_passed : (events : List Event) (i : ℕ) (event : Event) → (list_any (names_parent event.name) events && writes_mark event) ≡ false → unmarked_in events i event ≡ Ok tt
 mark_passed events i event e = rw e refl

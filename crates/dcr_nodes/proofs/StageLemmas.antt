@@ -3,38 +3,38 @@ use Rattle.std.proofs.Common.{◌≡◌, ℕ, zero, suc, ◌+◌, ◌≤◌, Lis
 use Rattle.std.specs.List.{slice_get}
 use Rattle.std.proofs.lemmas.List.{take_more, take_all, length-take-le, take-append-drop, drop_more}
 use Rattle.std.proofs.lemmas.Option.{get_or_from_slice_get, slice_get_within, same_Some}
-use Rattle.dcr_shape.specs.Stages.{after, each_from}
+use Rattle.dcr_shape.specs.Stages.{next_stage, each_from}
 
 module _ {B E : Type 0} where
   -- an element and the rest that were read
-  pub ok_parts : (o : Result B E) (p : Result (List B) E) (zs : List B) → after (λ y. after (λ ys. Ok (y ∷ ys)) p) o ≡ Ok zs
+  pub ok_parts : (o : Result B E) (p : Result (List B) E) (zs : List B) → next_stage (λ y. next_stage (λ ys. Ok (y ∷ ys)) p) o ≡ Ok zs
       → (y : B) × (ys : List B) × (o ≡ Ok y) × (p ≡ Ok ys) × (y ∷ ys ≡ zs)
   ok_parts (Err e) p zs h = absurd cc
   ok_parts (Ok y) (Err e) zs h = absurd cc
   ok_parts (Ok y) (Ok ys) zs h = (y, ys, refl, refl, cc)
 
-  after_ok : (q : Result (List B) E) → q ≡ after (λ ws. Ok ws) q
+  after_ok : (q : Result (List B) E) → q ≡ next_stage (λ ws. Ok ws) q
   after_ok (Err e) = refl
   after_ok (Ok ws) = refl
 
-  after_cons : (q : Result (List B) E) (y : B) (ys zs : List B) → y ∷ ys ≡ zs → after (λ ws. Ok (y ∷ ws)) (after (λ ws. Ok (ys ++ ws)) q) ≡ after (λ ws. Ok (zs ++ ws)) q
+  after_cons : (q : Result (List B) E) (y : B) (ys zs : List B) → y ∷ ys ≡ zs → next_stage (λ ws. Ok (y ∷ ws)) (next_stage (λ ws. Ok (ys ++ ws)) q) ≡ next_stage (λ ws. Ok (zs ++ ws)) q
   after_cons (Err e) y ys zs same = refl
   after_cons (Ok ws) y ys zs same = ap (λ us. Ok (us ++ ws)) same
 
 module _ {A B E : Type 0} where
   -- more after what was read
   from_append : (read : ℕ → A → Result B E) (k : ℕ) (xs zs : List A) (ys : List B) → each_from read k xs ≡ Ok ys
-      → each_from read k (xs ++ zs) ≡ after (λ ws. Ok (ys ++ ws)) (each_from read (k + length xs) zs)
+      → each_from read k (xs ++ zs) ≡ next_stage (λ ws. Ok (ys ++ ws)) (each_from read (k + length xs) zs)
   from_append read k [] zs ys before =
       let none : [] ≡ ys = cc in let same : k ≡ k + 0 = omega arith in
-      after_ok (each_from read k zs) ∙ ap (λ j. after (λ ws. Ok ws) (each_from read j zs)) same ∙ ap (λ us. after (λ ws. Ok (us ++ ws)) (each_from read (k + 0) zs)) none
+      after_ok (each_from read k zs) ∙ ap (λ j. next_stage (λ ws. Ok ws) (each_from read j zs)) same ∙ ap (λ us. next_stage (λ ws. Ok (us ++ ws)) (each_from read (k + 0) zs)) none
   from_append read k (x ∷ xs) zs ys before =
       let p = ok_parts (read k x) (each_from read (k + 1) xs) ys before in
       let same : k + 1 + length xs ≡ k + length (x ∷ xs) = omega arith in
-      ap (after (λ y. after (λ ws. Ok (y ∷ ws)) (each_from read (k + 1) (xs ++ zs)))) p.2
-      ∙ ap (after (λ ws. Ok (p.0 ∷ ws))) (from_append read (k + 1) xs zs p.1 p.3)
+      ap (next_stage (λ y. next_stage (λ ws. Ok (y ∷ ws)) (each_from read (k + 1) (xs ++ zs)))) p.2
+      ∙ ap (next_stage (λ ws. Ok (p.0 ∷ ws))) (from_append read (k + 1) xs zs p.1 p.3)
       ∙ after_cons (each_from read (k + 1 + length xs) zs) p.0 p.1 ys p.4
-      ∙ ap (λ j. after (λ ws. Ok (ys ++ ws)) (each_from read j zs)) same
+      ∙ ap (λ j. next_stage (λ ws. Ok (ys ++ ws)) (each_from read j zs)) same
 
   -- one more was read
   pub from_step : (read : ℕ → A → Result B E) (xs : List A) (i : ℕ) (x : A) (ys : List B) (y : B)
@@ -44,8 +44,8 @@ module _ {A B E : Type 0} where
       let longer : take (i + 1) xs ≡ take i xs ++ x ∷ [] = take_more xs i x l ∙ ap (λ w. take i xs ++ w ∷ []) (get_or_from_slice_get xs i x x is) in
       let room = length-take-le i xs (omega arith) in let few : 0 + length (take i xs) ≡ i = omega arith in
       ap (each_from read 0) longer ∙ from_append read 0 (take i xs) (x ∷ []) ys before
-      ∙ ap (λ j. after (λ ws. Ok (ys ++ ws)) (each_from read j (x ∷ []))) few
-      ∙ ap (λ o. after (λ ws. Ok (ys ++ ws)) (after (λ w. Ok (w ∷ [])) o)) here
+      ∙ ap (λ j. next_stage (λ ws. Ok (ys ++ ws)) (each_from read j (x ∷ []))) few
+      ∙ ap (λ o. next_stage (λ ws. Ok (ys ++ ws)) (next_stage (λ w. Ok (w ∷ [])) o)) here
 
   -- one is refused, so the list is
   pub from_stop : (read : ℕ → A → Result B E) (xs : List A) (i : ℕ) (x : A) (ys : List B) (stop : E)
@@ -55,8 +55,8 @@ module _ {A B E : Type 0} where
       let parts : xs ≡ take i xs ++ (x ∷ drop (i + 1) xs) = sym (take-append-drop i xs) ∙ ap (λ ws. take i xs ++ ws) (drop_more xs i x l) ∙ ap (λ w. take i xs ++ (w ∷ drop (i + 1) xs)) (get_or_from_slice_get xs i x x is) in
       let room = length-take-le i xs (omega arith) in let few : 0 + length (take i xs) ≡ i = omega arith in
       ap (each_from read 0) parts ∙ from_append read 0 (take i xs) (x ∷ drop (i + 1) xs) ys before
-      ∙ ap (λ j. after (λ ws. Ok (ys ++ ws)) (each_from read j (x ∷ drop (i + 1) xs))) few
-      ∙ ap (λ o. after (λ ws. Ok (ys ++ ws)) (after (λ w. after (λ rest. Ok (w ∷ rest)) (each_from read (i + 1) (drop (i + 1) xs))) o)) here
+      ∙ ap (λ j. next_stage (λ ws. Ok (ys ++ ws)) (each_from read j (x ∷ drop (i + 1) xs))) few
+      ∙ ap (λ o. next_stage (λ ws. Ok (ys ++ ws)) (next_stage (λ w. next_stage (λ rest. Ok (w ∷ rest)) (each_from read (i + 1) (drop (i + 1) xs))) o)) here
 
   -- all were read
   pub from_end : (read : ℕ → A → Result B E) (xs : List A) (i : ℕ) (o : Result (List B) E) → length xs ≤ i → each_from read 0 (take i xs) ≡ o → each_from read 0 xs ≡ o

@@ -59,11 +59,11 @@ abbrev pub writes_mark : Event → Bool
 writes_mark event = is_some event.executed || (is_some event.pending || is_some event.included)
 
 -- no mark is written where the event is a parent
-abbrev pub mark_in : List Event → ℕ → Event → Result (Unit {0}) ReadStop
-mark_in events i event = if list_any (names_parent event.name) events && writes_mark event then Err (MarkOnNest i) else Ok tt
+abbrev pub unmarked_in : List Event → ℕ → Event → Result (Unit {0}) ReadStop
+unmarked_in events i event = if list_any (names_parent event.name) events && writes_mark event then Err (MarkOnNest i) else Ok tt
 
 unfoldable pub marks_in : List Event → Result (Unit {0}) ReadStop
-marks_in events = each_from (mark_in events) 0 events >>= λ _. Ok tt
+marks_in events = each_from (unmarked_in events) 0 events >>= λ _. Ok tt
 
 -- an end of relation i
 abbrev pub end_in : List (List ℕ) → ℕ → List ℕ → Result ℕ ReadStop

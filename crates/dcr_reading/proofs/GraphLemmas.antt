@@ -24,7 +24,7 @@ use Rattle.dcr_shape.specs.Case.{shape_in}
 use Rattle.dcr_shape.specs.Members.{listed}
 use Rattle.dcr_shape.specs.Parts.{Arrays, Event, Relation, Site, top_in, graph_in, event_in, relation_in, cover_in, site_in, sessions_in, texts_in}
 use Rattle.dcr_shape.specs.Shape.{shaped, each_shaped}
-use Rattle.dcr_shape.specs.Stages.{after, each_from}
+use Rattle.dcr_shape.specs.Stages.{next_stage, each_from}
 use Rattle.dcr_shape.specs.declared.stop.LimitKind.{LimitKind}
 use Rattle.dcr_shape.specs.declared.stop.LimitKind.TheVariants as kind
 use Rattle.dcr_shape.specs.declared.stop.Part.TheVariants as part
@@ -36,7 +36,7 @@ use Rattle.dcr_shape.specs.declared.written.Written.{Written}
 use Rattle.dcr_limit.specs.Limits.{limits_in, names_parent}
 use Rattle.dcr_limit.specs.Words.{HasShortLabel, KeepsLimit}
 use Rattle.dcr_limit.proofs.LawLemmas.{limits_law}
-use Rattle.dcr_nodes.specs.Nodes.{names_of as event_names, number_before, name_in, names_in, parent_in, node_with, node_in, tree_in, mark_in, marks_in, pair_in, relations_in, nodes_in, version_in}
+use Rattle.dcr_nodes.specs.Nodes.{names_of as event_names, number_before, name_in, names_in, parent_in, node_with, node_in, tree_in, unmarked_in, marks_in, pair_in, relations_in, nodes_in, version_in}
 use Rattle.dcr_nodes.specs.Opening.{opening_in}
 use Rattle.dcr_nodes.specs.declared.nodes.Nodes.{Nodes}
 use Rattle.dcr_nodes.proofs.NameLemmas.{before_found, name_new}
@@ -175,14 +175,14 @@ tree_is N nested =
     ∙ read_first (node_in names) (event_of names) (λ (node : Node). node) N.nodes (λ i node is.
     let within : i ≤ length names = (let l = slice_get_within N.nodes i node is in let many = length-map N.nodes (λ (n : Node). n.name) in omega arith) in
     let parent = parent_is names i node.parent nested.distinct within (λ p told. nested.earlier i p (at_index (λ (n : Node). n.parent) N.nodes i node None is ∙ told)) in
-    ap (after (λ found. Ok (node_with (event_of names node) found))) parent)
+    ap (next_stage (λ found. Ok (node_with (event_of names node) found))) parent)
     ∙ ap Ok (map-id N.nodes)
 
 marks_are : (N : Nest) → marks_in (events_of N) ≡ Ok tt
 unfolding marks_in
 marks_are N =
     let events = events_of N in
-    ap (after (λ _. Ok tt)) (read_first (mark_in events) (event_of (names_of N.nodes)) (λ (_ : Node). tt) N.nodes (λ i node is.
+    ap (next_stage (λ _. Ok tt)) (read_first (unmarked_in events) (event_of (names_of N.nodes)) (λ (_ : Node). tt) N.nodes (λ i node is.
     mark_passed events i (event_of (names_of N.nodes) node) (and-false (list_any (names_parent node.name) events))))
 
 pair_is : (names : List (List ℕ)) (i : ℕ) (pair : Pair) → AreDistinct names → pair.1 < length names → pair.2 < length names → pair_in names i (relation_of names pair) ≡ Ok pair

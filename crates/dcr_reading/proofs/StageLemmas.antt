@@ -9,17 +9,17 @@ use Rattle.serde_json.specs.Data.{Data}
 use Rattle.serde_json.specs.View.{items_of}
 use Rattle.dcr_shape.specs.Case.{shape_in}
 use Rattle.dcr_shape.specs.Members.{listed}
-use Rattle.dcr_shape.specs.Stages.{after, each_from}
+use Rattle.dcr_shape.specs.Stages.{next_stage, each_from}
 use Rattle.dcr_shape.specs.declared.written.Written.{Written}
 use Rattle.dcr_limit.specs.Limits.{limits_in}
 use Rattle.dcr_reading.specs.Found.{written_in}
 
 -- this stage gave x, and so the rest is what follows on x
-pub after_is : {A B E : Type 0} (f : A → Result B E) (r : Result A E) (x : A) (y : Result B E) → r ≡ Ok x → f x ≡ y → after f r ≡ y
-after_is f r x y e rest = ap (after f) e ∙ rest
+pub after_is : {A B E : Type 0} (f : A → Result B E) (r : Result A E) (x : A) (y : Result B E) → r ≡ Ok x → f x ≡ y → next_stage f r ≡ y
+after_is f r x y e rest = ap (next_stage f) e ∙ rest
 
 -- where something is given at last, this stage gave something
-pub after_ok : {A B E C : Type 0} (f : A → Result B E) (r : Result A E) (y : B) → after f r ≡ Ok y → ((x : A) → r ≡ Ok x → f x ≡ Ok y → C) → C
+pub after_ok : {A B E C : Type 0} (f : A → Result B E) (r : Result A E) (y : B) → next_stage f r ≡ Ok y → ((x : A) → r ≡ Ok x → f x ≡ Ok y → C) → C
 after_ok f (Err e) y h next = absurd cc
 after_ok f (Ok x) y h next = next x refl h
 
@@ -32,7 +32,7 @@ read_mapped read f g k (x ∷ xs) h =
     let here : read k (f x) ≡ Ok (g x) = ap (λ j. read j (f x)) first ∙ h 0 x refl in
     let later : each_from read (k + 1) (map f xs) ≡ Ok (map g xs) =
     read_mapped read f g (k + 1) xs (λ i y is. let next : k + 1 + i ≡ k + suc i = omega arith in ap (λ j. read j (f y)) next ∙ h (suc i) y is) in
-    ap (after (λ y. after (λ ys. Ok (y ∷ ys)) (each_from read (k + 1) (map f xs)))) here ∙ ap (after (λ ys. Ok (g x ∷ ys))) later
+    ap (next_stage (λ y. next_stage (λ ys. Ok (y ∷ ys)) (each_from read (k + 1) (map f xs)))) here ∙ ap (next_stage (λ ys. Ok (g x ∷ ys))) later
 
 -- the same, counting from 0
 pub read_first : {X A B E : Type 0} (read : ℕ → A → Result B E) (f : X → A) (g : X → B) (xs : List X)

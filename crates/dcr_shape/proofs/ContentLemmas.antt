@@ -15,7 +15,7 @@ use Rattle.dcr_shape.specs.Laws.{WhatIsReadIsThere}
 use Rattle.dcr_shape.specs.Members.{◌>>=◌, optional, text_at, listed, elements, each}
 use Rattle.dcr_shape.specs.Parts.{Event, Relation, Site, top_in, graph_in, event_in, cancel_in, kind_named, ends_in, relation_in, cover_in, site_in, sessions_in, texts_in}
 use Rattle.dcr_shape.specs.Shape.{shaped, each_shaped}
-use Rattle.dcr_shape.specs.Stages.{after, each_from}
+use Rattle.dcr_shape.specs.Stages.{next_stage, each_from}
 use Rattle.dcr_shape.specs.Words.{elements_at, graph_elements}
 use Rattle.dcr_shape.specs.declared.stop.Part.{Part}
 use Rattle.dcr_shape.specs.declared.stop.Part.TheVariants as part
@@ -224,7 +224,7 @@ each_beside p read R is n [] xs e = let none : [] ≡ xs = cc in subst (AreBesid
 each_beside {A = A} p read R is n (d ∷ ds) xs e = at (read d) (each_from (shaped p read) (n + 1) ds) refl refl (λ ys g. each_beside p read R is (n + 1) ds ys g) e
   where
     at : (o : Option A) (r : Result (List A) ReadStop) → read d ≡ o → each_from (shaped p read) (n + 1) ds ≡ r → ((ys : List A) → each_from (shaped p read) (n + 1) ds ≡ Ok ys → AreBeside R ds ys)
-        → after (λ y. after (λ ys. Ok (y ∷ ys)) r) (ok_or o (Shape p n)) ≡ Ok xs → AreBeside R (d ∷ ds) xs
+        → next_stage (λ y. next_stage (λ ys. Ok (y ∷ ys)) r) (ok_or o (Shape p n)) ≡ Ok xs → AreBeside R (d ∷ ds) xs
     at None r f g more h = absurd cc
     at (Some y) (Err stop) f g more h = absurd cc
     at (Some y) (Ok ys) f g more h = let same : y ∷ ys ≡ xs = cc in subst (AreBeside R (d ∷ ds)) same (is d y f, more ys g)
@@ -240,7 +240,7 @@ same_beside R one (d ∷ ds) (x ∷ xs) (y ∷ ys) a b = ap (λ z. z ∷ xs) (on
 -- ---- the whole
 
 -- a stage gave something
-stage_gave : {A B E : Type 0} (r : Result A E) (f : A → Result B E) (y : B) → after f r ≡ Ok y → (x : A) × (r ≡ Ok x) × (f x ≡ Ok y)
+stage_gave : {A B E : Type 0} (r : Result A E) (f : A → Result B E) (y : B) → next_stage f r ≡ Ok y → (x : A) × (r ≡ Ok x) × (f x ≡ Ok y)
 stage_gave (Ok x) f y e = (x, refl, e)
 stage_gave (Err stop) f y e = absurd cc
 

@@ -2,7 +2,7 @@
 use Rattle.std.proofs.Common.{◌≡◌, ℕ, zero, suc, ◌+◌, ◌<◌, List, [], ◌∷◌, Some, Result, Ok, Err, refl, ap, subst, arith}
 use Rattle.std.specs.List.{slice_get}
 use Rattle.std.proofs.lemmas.Option.{same_Some}
-use Rattle.dcr_shape.specs.Stages.{after, each_from}
+use Rattle.dcr_shape.specs.Stages.{next_stage, each_from}
 
 -- it was read and passes, or it was refused, and this is why
 pub data OneRead {B E : Type 0} (P : Type 0) (F : E → Type 0) (r : Result B E) : Type 0 where
@@ -30,7 +30,7 @@ module _ {A B E : Type 0} (P : ℕ → A → Type 0) (F : ℕ → A → E → Ty
       at : OneRead (P n x) (F n x) (read n x) → EachRead P F (n + 1) xs (each_from read (n + 1) xs) → EachRead P F n (x ∷ xs) (each_from read n (x ∷ xs))
       at (halted e f why) more =
           let same : n ≡ n + 0 = omega arith in
-          first_not 0 x e (ap (after (λ y. after (λ ys. Ok (y ∷ ys)) (each_from read (n + 1) xs))) f) refl (subst (λ k. F k x e) same why) (λ j y l is. absurd (omega arith))
+          first_not 0 x e (ap (next_stage (λ y. next_stage (λ ys. Ok (y ∷ ys)) (each_from read (n + 1) xs))) f) refl (subst (λ k. F k x e) same why) (λ j y l is. absurd (omega arith))
       at (went y f p) (all_read ys g all) = all_read (y ∷ ys) (rw (f, g) refl) (all_pass n x xs p all)
       at (went y f p) (first_not i z e g is why before) =
           let same : n + 1 + i ≡ n + suc i = omega arith in

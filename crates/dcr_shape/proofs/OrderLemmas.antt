@@ -2,7 +2,7 @@
 use Rattle.std.proofs.Common.{◌≡◌, ℕ, ◌+◌, ◌<◌, inl, inr, List, Result, Ok, Err, sym, ap, ◌∙◌, subst, arith}
 use Rattle.std.proofs.lemmas.Bool.{cases_lt}
 use Rattle.dcr_shape.specs.Order.{EachAt, FailsFirst, IsFirstToFail, RefusesFirst}
-use Rattle.dcr_shape.specs.Stages.{after}
+use Rattle.dcr_shape.specs.Stages.{next_stage}
 
 -- ---- one stage
 
@@ -70,9 +70,9 @@ module _ {K I E : Type 0} (rank : K → ℕ) (stop : K → I → E) (Holds : K �
 
   -- one stage and those after it
   pub stage : {A W : Type 0} (k : K) (r : Result A E) (f : A → Result W E) (H : Type 0) (F : I → Type 0) → Outcome (stop k) r H F → (H → Holds k) → ((i : I) → F i → Fails k i) → UpTo rank Holds (rank k)
-      → ((x : A) → r ≡ Ok x → UpTo rank Holds (rank k + 1) → Ends rank stop Holds Fails (f x)) → Ends rank stop Holds Fails (after f r)
-  stage k r f H F (passed x e h) holding failing before next = subst (Ends rank stop Holds Fails) (sym (ap (after f) e)) (next x e (up_to_next k before (holding h)))
-  stage k r f H F (failed i e h) holding failing before next = first_fails k i (ap (after f) e) (record { earlier = before; fails = failing i h })
+      → ((x : A) → r ≡ Ok x → UpTo rank Holds (rank k + 1) → Ends rank stop Holds Fails (f x)) → Ends rank stop Holds Fails (next_stage f r)
+  stage k r f H F (passed x e h) holding failing before next = subst (Ends rank stop Holds Fails) (sym (ap (next_stage f) e)) (next x e (up_to_next k before (holding h)))
+  stage k r f H F (failed i e h) holding failing before next = first_fails k i (ap (next_stage f) e) (record { earlier = before; fails = failing i h })
 
   -- ---- the law
 

@@ -11,8 +11,8 @@ use Rattle.dcr_shape.specs.Members.{◌>>=◌, elements}
 use Rattle.dcr_shape.specs.Order.{FailsFirst}
 use Rattle.dcr_shape.specs.Parts.{Arrays, top_in, elements_or_none, graph_in, event_in, relation_in, cover_in, site_in, sessions_in, texts_in}
 use Rattle.dcr_shape.specs.Shape.{shaped, each_shaped}
-use Rattle.dcr_shape.specs.Stages.{after, each_from}
-use Rattle.dcr_shape.specs.Words.{IsArray, IsArrayOfTexts, HasMember, MayHaveMember, IsTop, IsGraph, IsEvent, IsRelation, IsSite, elements_at, graph_elements, Holds, FailsAt}
+use Rattle.dcr_shape.specs.Stages.{next_stage, each_from}
+use Rattle.dcr_shape.specs.Words.{IsArray, IsArrayOfTexts, HasMember, MayHaveMember, IsTop, IsGraphObject, IsEvent, IsRelation, IsSite, elements_at, graph_elements, Holds, FailsAt}
 use Rattle.dcr_shape.specs.declared.stop.Part.{Part}
 use Rattle.dcr_shape.specs.declared.stop.Part.TheVariants as part
 use Rattle.dcr_shape.specs.declared.stop.ReadStop.{ReadStop}
@@ -168,13 +168,13 @@ read_of None stop x e = absurd cc
 read_of (Some y) stop x e = ap Some (let same : y ≡ x = cc in same)
 
 one_stage : {A : Type 0} (d : Data) (p : Part) (read : Data → Option A) (f : A → Result Written ReadStop) (P : Type 0) → Tells (read d) P → (P → Holds d p) → ((i : ℕ) → (i ≡ 0) × ¬ P → FailsAt d p i) → UpTo rank (Holds d) (rank p)
-    → ((x : A) → read d ≡ Some x → UpTo rank (Holds d) (rank p + 1) → Ends rank Shape (Holds d) (FailsAt d) (f x)) → Ends rank Shape (Holds d) (FailsAt d) (after f (shaped p read 0 d))
+    → ((x : A) → read d ≡ Some x → UpTo rank (Holds d) (rank p + 1) → Ends rank Shape (Holds d) (FailsAt d) (f x)) → Ends rank Shape (Holds d) (FailsAt d) (next_stage f (shaped p read 0 d))
 one_stage d p read f P t holding failing before next =
     stage rank Shape (Holds d) (FailsAt d) (parts_ordered d) p (shaped p read 0 d) f P (λ i. (i ≡ 0) × ¬ P) (one_outcome p read d P t) holding failing before (λ x e up. next x (read_of (read d) (Shape p 0) x e) up)
 
 each_stage : {A : Type 0} (d : Data) (p : Part) (read : Data → Option A) (f : List A → Result Written ReadStop) (P : Data → Type 0) (ds whole : List Data) → whole ≡ ds → ((e : Data) → Tells (read e) (P e))
     → (All P whole → Holds d p) → ((i : ℕ) → PartFails P whole i → FailsAt d p i) → UpTo rank (Holds d) (rank p)
-    → ((xs : List A) → UpTo rank (Holds d) (rank p + 1) → Ends rank Shape (Holds d) (FailsAt d) (f xs)) → Ends rank Shape (Holds d) (FailsAt d) (after f (each_shaped p read ds))
+    → ((xs : List A) → UpTo rank (Holds d) (rank p + 1) → Ends rank Shape (Holds d) (FailsAt d) (f xs)) → Ends rank Shape (Holds d) (FailsAt d) (next_stage f (each_shaped p read ds))
 each_stage d p read f P ds whole same t holding failing before next =
     stage rank Shape (Holds d) (FailsAt d) (parts_ordered d) p (each_shaped p read ds) f (All P ds) (PartFails P ds) (each_outcome p read P ds t) (λ all. holding (subst (All P) (sym same) all))
     (λ i first. failing i (subst (λ (es : List Data). PartFails P es i) (sym same) first)) before (λ xs e up. next xs up)
@@ -193,7 +193,7 @@ ends : (d : Data) → Ends rank Shape (Holds d) (FailsAt d) (shape_in d)
 unfolding shape_in
 ends d =
     one_stage d part.Top top_in _ (IsTop d) (tells_top d) (λ h. h) (λ i f. f) (up_to_none rank (Holds d)) (λ version is u1.
-    one_stage d part.Graph graph_in _ (HasMember (codes "graph") IsGraph d) (tells_graph d) (λ h. h) (λ i f. f) u1 (λ graph is1 u2.
+    one_stage d part.Graph graph_in _ (HasMember (codes "graph") IsGraphObject d) (tells_graph d) (λ h. h) (λ i f. f) u1 (λ graph is1 u2.
     each_stage d part.Event event_in _ IsEvent graph.events (graph_elements (codes "events") d) (graph_arrays d graph is1).events tells_event (λ h. h) (λ i f. f) u2 (λ events u3.
     each_stage d part.Relation (relation_in version) _ (IsRelation d) graph.relations (graph_elements (codes "relations") d) (graph_arrays d graph is1).relations (λ r. tells_relation d version r (tells_second d version is)) (λ h. h) (λ i f. f) u3 (λ relations u4.
     one_stage d part.Cover cover_in _ (HasMember (codes "cover") IsArray d) (tells_cover d) (λ h. h) (λ i f. f) u4 (λ cover is2 u5.

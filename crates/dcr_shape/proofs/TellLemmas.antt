@@ -7,8 +7,8 @@ use Rattle.serde_json.specs.Data.{Data, null, boolean, number, string, array, ob
 use Rattle.serde_json.specs.Find.{get, as_array, as_bool, as_object, as_str}
 use Rattle.dcr_graph.specs.declared.kind.Kind.TheVariants.{Condition, Response, Milestone, Include, Exclude, Cancel}
 use Rattle.dcr_shape.specs.Members.{◌>>=◌, optional, text_at, listed, elements, each}
-use Rattle.dcr_shape.specs.Parts.{Arrays, Relation, Site, version_named, version_of, top_in, elements_or_none, graph_in, event_in, cancel_in, kind_named, ends_in, relation_in, texts_in, cover_in, site_in, sessions_in}
-use Rattle.dcr_shape.specs.Words.{IsText, IsArray, IsObject, IsArrayOfTexts, HasMember, MayHaveMember, IsVersion, IsTop, IsSecondVersion, IsGraph, IsEvent, IsKind, IsRelation, IsSite}
+use Rattle.dcr_shape.specs.Parts.{Arrays, Relation, Site, version_named, version_written, top_in, elements_or_none, graph_in, event_in, cancel_in, kind_named, ends_in, relation_in, texts_in, cover_in, site_in, sessions_in}
+use Rattle.dcr_shape.specs.Words.{IsText, IsArray, IsObject, IsArrayOfTexts, HasMember, MayHaveMember, IsVersion, IsTop, IsSecondVersion, IsGraphObject, IsEvent, IsKind, IsRelation, IsSite}
 use Rattle.dcr_shape.specs.declared.version.Version.{Version}
 use Rattle.dcr_shape.specs.declared.version.Version.TheVariants.{V1, V2}
 
@@ -164,12 +164,12 @@ pub tells_sessions : (d : Data) → Tells (sessions_in d) (MayHaveMember (codes 
 unfolding sessions_in
 tells_sessions d = tells_elements_or_none (codes "sessions") d
 
-pub tells_graph : (d : Data) → Tells (graph_in d) (HasMember (codes "graph") IsGraph d)
+pub tells_graph : (d : Data) → Tells (graph_in d) (HasMember (codes "graph") IsGraphObject d)
 unfolding graph_in
-tells_graph d = tells_member (codes "graph") d _ IsGraph arrays
+tells_graph d = tells_member (codes "graph") d _ IsGraphObject arrays
   where
     arrays : (graph : Data)
-        → Tells {A = Arrays} (get (codes "events") graph >>= λ member. elements member >>= λ events. elements_or_none (get (codes "relations") graph) >>= λ relations. Some (record { events = events; relations = relations })) (IsGraph graph)
+        → Tells {A = Arrays} (get (codes "events") graph >>= λ member. elements member >>= λ events. elements_or_none (get (codes "relations") graph) >>= λ relations. Some (record { events = events; relations = relations })) (IsGraphObject graph)
     arrays graph = tells_as _ (HasMember (codes "events") (λ part. IsArray part × (MayHaveMember (codes "relations") IsArray graph × Unit {0})) graph) _
         (tells_member (codes "events") graph _ (λ part. IsArray part × (MayHaveMember (codes "relations") IsArray graph × Unit {0})) (λ member.
         tells_then (elements member) _ _ _ (tells_elements member) (λ events is. tells_then (elements_or_none (get (codes "relations") graph)) _ _ _ (tells_elements_or_none (codes "relations") graph) (λ relations is1. tells_some _))))
@@ -225,10 +225,10 @@ named_text d (Some text) is = tells_as _ _ _ (tells_version_named text) to from
     from (inl e) = inl (let there = sym is ∙ ap as_str e in cc)
     from (inr e) = inr (inl (let there = sym is ∙ ap as_str e in cc))
 
-tells_version_of : (d : Data) → Tells (version_of (get (codes "version") d)) (MayHaveMember (codes "version") IsVersion d)
+tells_version_of : (d : Data) → Tells (version_written (get (codes "version") d)) (MayHaveMember (codes "version") IsVersion d)
 tells_version_of d = at (get (codes "version") d) refl
   where
-    at : (m : Option Data) → get (codes "version") d ≡ m → Tells (version_of m) (MayHaveMember (codes "version") IsVersion d)
+    at : (m : Option Data) → get (codes "version") d ≡ m → Tells (version_written m) (MayHaveMember (codes "version") IsVersion d)
     at None is = record { read = λ x e part there. absurd cc; holds = λ may. (V1, refl) }
     at (Some part) is = record {
       read = λ x e other there. let same : part ≡ other = same_Some _ _ (sym is ∙ there) in subst IsVersion same ((named_text part (as_str part) refl).read x e);
@@ -254,7 +254,7 @@ second_named text version e two = at (bytes_eq text (codes "1")) (bytes_eq text 
     at false true h e = h refl
     at false false h e = absurd cc
 
-tells_second_at : (d : Data) (m : Option Data) (version : Version) → get (codes "version") d ≡ m → version_of m ≡ Some version → TellsSecond d version
+tells_second_at : (d : Data) (m : Option Data) (version : Version) → get (codes "version") d ≡ m → version_written m ≡ Some version → TellsSecond d version
 tells_second_at d None version is e = record { second = λ two. absurd cc; is = λ two. absurd cc }
 tells_second_at d (Some part) version is e = text (as_str part) refl e
   where
@@ -269,7 +269,7 @@ pub tells_second : (d : Data) (version : Version) → top_in d ≡ Some version 
 unfolding top_in
 tells_second d version e = at (as_object d) e
   where
-    at : (o : Option Members) → (o >>= λ inside. version_of (get (codes "version") d)) ≡ Some version → TellsSecond d version
+    at : (o : Option Members) → (o >>= λ inside. version_written (get (codes "version") d)) ≡ Some version → TellsSecond d version
     at None e = absurd cc
     at (Some inside) e = tells_second_at d (get (codes "version") d) version refl e
 

@@ -50,15 +50,15 @@ abbrev pub version_named : List ℕ → Option Version
 version_named text = cond (bytes_eq text (codes "1")) (Some V1) (cond (bytes_eq text (codes "2")) (Some V2) None)
 
 -- the version that a member is: the first, where there is no such member
-abbrev pub version_of : Option Data → Option Version
-version_of None = Some V1
-version_of (Some d) = as_str d >>= version_named
+abbrev pub version_written : Option Data → Option Version
+version_written None = Some V1
+version_written (Some d) = as_str d >>= version_named
 
 -- an object, and its version
 unfoldable pub top_in : Data → Option Version
 top_in d = do
   members ← as_object d
-  version_of (get (codes "version") d)
+  version_written (get (codes "version") d)
 
 -- the elements of an array, and none where it is missing
 abbrev pub elements_or_none : Option Data → Option (List Data)

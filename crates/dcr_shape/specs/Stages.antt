@@ -1,14 +1,14 @@
 -- Stages of reading: each gives what it reads, or a refusal.
 use Rattle.std.specs.Prelude.{ℕ, ◌+◌, List, [], ◌∷◌, Result, Ok, Err}
 
-abbrev pub after : {A B E : Type 0} → (A → Result B E) → Result A E → Result B E
-after f (Ok x) = f x
-after f (Err e) = Err e
+abbrev pub next_stage : {A B E : Type 0} → (A → Result B E) → Result A E → Result B E
+next_stage f (Ok x) = f x
+next_stage f (Err e) = Err e
 
 infixl 10 ◌>>=◌
 -- the next stage, where this one gave something
 abbrev pub ◌>>=◌ : {A B E : Type 0} → Result A E → (A → Result B E) → Result B E
-r >>= f = after f r
+r >>= f = next_stage f r
 
 -- each of a list with its index, counting from i; it stops at the first that is refused
 abbrev pub each_from : {A B E : Type 0} → (ℕ → A → Result B E) → ℕ → List A → Result (List B) E

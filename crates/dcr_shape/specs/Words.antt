@@ -50,7 +50,7 @@ abbrev pub IsSecondVersion : Data → Type 0
 IsSecondVersion d = get (codes "version") d ≡ Some (string (codes "2"))
 
 -- an object, its `events` an array, and its `relations` an array where it is there
-pub record IsGraph (d : Data) : Type 0 where
+pub record IsGraphObject (d : Data) : Type 0 where
   pub is_object : IsObject d
   pub events : HasMember (codes "events") IsArray d
   pub relations : MayHaveMember (codes "relations") IsArray d
@@ -97,7 +97,7 @@ graph_elements name d = unwrap_or (get (codes "graph") d >>= λ graph. get name 
 -- the part is of its shape; of a part that comes several times, each
 abbrev pub Holds : Data → Part → Type 0
 Holds d part.Top = IsTop d
-Holds d part.Graph = HasMember (codes "graph") IsGraph d
+Holds d part.Graph = HasMember (codes "graph") IsGraphObject d
 Holds d part.Event = All IsEvent (graph_elements (codes "events") d)
 Holds d part.Relation = All (IsRelation d) (graph_elements (codes "relations") d)
 Holds d part.Cover = HasMember (codes "cover") IsArray d
@@ -108,7 +108,7 @@ Holds d part.Session = All IsArrayOfTexts (elements_at (codes "sessions") d)
 -- the part fails; of a part that comes several times, the one at i first
 abbrev pub FailsAt : Data → Part → ℕ → Type 0
 FailsAt d part.Top i = (i ≡ 0) × ¬ IsTop d
-FailsAt d part.Graph i = (i ≡ 0) × ¬ HasMember (codes "graph") IsGraph d
+FailsAt d part.Graph i = (i ≡ 0) × ¬ HasMember (codes "graph") IsGraphObject d
 FailsAt d part.Event i = FailsFirst (λ _ part. IsEvent part) (graph_elements (codes "events") d) i
 FailsAt d part.Relation i = FailsFirst (λ _ part. IsRelation d part) (graph_elements (codes "relations") d) i
 FailsAt d part.Cover i = (i ≡ 0) × ¬ HasMember (codes "cover") IsArray d

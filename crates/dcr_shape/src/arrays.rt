@@ -2,7 +2,7 @@ ghost use Rattle.std.specs.Prelude.{◌≡◌, ◌<◌, ◌≤◌, map, option_m
 ghost use Rattle.serde_json.specs.Find.{get};
 ghost use Rattle.serde_json.specs.View.{items_view, view};
 ghost use Rattle.dcr_size.specs.Size.{items_size, size};
-ghost use Rattle.dcr_shape.specs.Parts.{cover_in, elements_or_none, graph_in, sessions_in, top_in, version_named, version_of};
+ghost use Rattle.dcr_shape.specs.Parts.{cover_in, elements_or_none, graph_in, sessions_in, top_in, version_named, version_written};
 ghost use Rattle.dcr_shape.specs.Items.{arrays_of};
 
 use crate::Version;

@@ -1,6 +1,6 @@
 use Rattle.std.proofs.Common.{◌≡◌, ◌≢◌, ◌<◌, [], Some, length, map, below_more, rules, arith}
 use Rattle.std.proofs.lemmas.List.{length-map}
-use Rattle.dcr_cover.specs.Told.{set_of, first_stop}
+use Rattle.dcr_cover.specs.Told.{set_meant, first_stop}
 use Rattle.dcr_cover.specs.declared.text.CoverStop.TheVariants.{NoMemory}
 use Rattle.dcr_cover.proofs.CheckLemmas.{mapped_more, stopped_at, nothing_stops}
 use Rattle.dcr_cover.proofs.sites.read_sites.Goals as goal
@@ -18,7 +18,7 @@ loop-i-preserved g c =
     let within : c.loop-i.i < length sites = omega (arith, length-map c.args.sites.now g.S.AsSiteText.written) in
     record {
       names_are = mapped_more (λ site. site.0) sites c.loop-i.i ([], []) c.loop-i.names.items _ c.in_ok-name.name within c.loop-i.invariant.names_are c.in_ok-name.ensures.name c.in_ok-push.ensures.items;
-      owned_are = mapped_more (λ site. set_of c.args.index.now site.1) sites c.loop-i.i ([], []) c.loop-i.owned.items _ c.in_ok-name.set within c.loop-i.invariant.owned_are c.in_ok-name.ensures.owned c.in_ok-push-2.ensures.items;
+      owned_are = mapped_more (λ site. set_meant c.args.index.now site.1) sites c.loop-i.i ([], []) c.loop-i.owned.items _ c.in_ok-name.set within c.loop-i.invariant.owned_are c.in_ok-name.ensures.owned c.in_ok-push-2.ensures.items;
       good = below_more _ _ c.loop-i.invariant.good c.in_ok-name.ensures.good;
     }
 

@@ -6,10 +6,10 @@ use Rattle.dcr_nest.specs.Tree.{is_parent}
 use Rattle.dcr_nest.specs.declared.node.Node.{Node}
 use Rattle.dcr_shape.specs.Items.{event_of}
 use Rattle.dcr_shape.specs.Parts.{Event, no_event}
-use Rattle.dcr_shape.specs.Stages.{after, each_from}
+use Rattle.dcr_shape.specs.Stages.{next_stage, each_from}
 use Rattle.dcr_shape.specs.declared.stop.ReadStop.TheVariants.{MarkOnNest}
 use Rattle.dcr_limit.specs.Limits.{names_parent}
-use Rattle.dcr_nodes.specs.Nodes.{names_of, names_in, tree_in, writes_mark, mark_in, marks_in}
+use Rattle.dcr_nodes.specs.Nodes.{names_of, names_in, tree_in, writes_mark, unmarked_in, marks_in}
 use Rattle.dcr_nodes.proofs.NameLemmas.{name_at}
 use Rattle.dcr_nodes.proofs.NodeLemmas.{tree_length, earlier_parents, parent_by_name, mark_found, mark_passed}
 use Rattle.dcr_nodes.proofs.StageLemmas.{from_step, from_stop, from_end}
@@ -23,9 +23,9 @@ marked_by_name events nodes marks i event names tree told l at =
     told i l ∙ parent_by_name events (names_of events) nodes i names tree (slice_get_within events i event at) ∙ ap (λ name. list_any (names_parent name) events) (name_at events i event at)
 
 -- one event more that is as it should be
-passed_more : (events : List Event) (i : ℕ) (event : Event) (done : List (Unit {0})) → slice_get events i ≡ Some event → each_from (mark_in events) 0 (take i events) ≡ Ok done
-    → (list_any (names_parent event.name) events && writes_mark event) ≡ false → (more : List (Unit {0})) × (each_from (mark_in events) 0 (take (i + 1) events) ≡ Ok more)
-passed_more events i event done at before passes = (done ++ tt ∷ [], from_step (mark_in events) events i event done tt at before (mark_passed events i event passes))
+passed_more : (events : List Event) (i : ℕ) (event : Event) (done : List (Unit {0})) → slice_get events i ≡ Some event → each_from (unmarked_in events) 0 (take i events) ≡ Ok done
+    → (list_any (names_parent event.name) events && writes_mark event) ≡ false → (more : List (Unit {0})) × (each_from (unmarked_in events) 0 (take (i + 1) events) ≡ Ok more)
+passed_more events i event done at before passes = (done ++ tt ∷ [], from_step (unmarked_in events) events i event done tt at before (mark_passed events i event passes))
 
 neither : (b c : Bool) → c ≡ false → (b && c) ≡ false
 neither true c e = e
@@ -44,7 +44,7 @@ returns-then-has_marks c =
     let events = c.args.events.now in
     let event = event_of c.get.result in
     let parent = marked_by_name events c.args.nodes.now c.parent_marks-is_parent.result c.loop-i.i event c.requires.names c.requires.nodes c.parent_marks-is_parent.ensures.marks (omega arith) c.get.ensures.event in
-    sym (ap (after (λ _. Ok tt)) (from_stop (mark_in events) events c.loop-i.i event done (MarkOnNest c.loop-i.i) c.get.ensures.event read
+    sym (ap (next_stage (λ _. Ok tt)) (from_stop (unmarked_in events) events c.loop-i.i event done (MarkOnNest c.loop-i.i) c.get.ensures.event read
     (mark_found events c.loop-i.i event (sym parent ∙ c.if-is_parent-i.true) (sym c.if-has_marks.ensures))))
 
 pub loop-i-preserved : goal.loop-i-preserved
@@ -68,4 +68,4 @@ unfolding marks_in
 returns c =
     let (done, read) = c.loop-i.invariant in
     let events = c.args.events.now in
-    sym (ap (after (λ _. Ok tt)) (from_end (mark_in events) events c.loop-i.i (Ok done) (omega arith) read))
+    sym (ap (next_stage (λ _. Ok tt)) (from_end (unmarked_in events) events c.loop-i.i (Ok done) (omega arith) read))
