@@ -1,4 +1,4 @@
-"""`./dcr` over a small checkout of two crates and a stand-in for `rt`, which is slow, fails, or is missing."""
+"""`./dcr` over a small checkout of four crates and a stand-in for `rt`, which is slow, fails, or is missing."""
 
 import contextlib
 import os
@@ -15,14 +15,14 @@ RT = """#!/bin/sh
 echo "$*" >>"$STAND_IN/calls"
 case $1 in
 all)
-    for crate in dcr_set dcr; do
+    for crate in dcr_set dcr_base dcr_app dcr; do
         sleep "${SLOW:-0}"
         [ "${FAILS:-}" != "$crate" ] || { echo "$crate: not proved"; exit 1; }
         echo "== $crate"
     done
     ;;
 run)
-    echo "proved" >&2
+    echo "rt: chose --jobs 4 for dcr_app" >&2
     [ "${FAILS:-}" != link ] || exit 3
     mkdir -p out
     printf '#!/bin/sh\\n[ "$1" = run ] || exit 2\\n[ "${2:-}" != status ] || exit 8\\necho "%s $*"\\ncat\\n' "$(cat src/main.rt)" >out/dcr.linking
@@ -37,14 +37,14 @@ USAGE, NO_RT, FAILED, NOT_WRITABLE = 2, 69, 70, 73
 
 
 class Checkout:
-    """A checkout of two crates in a folder of its own, with the stand-in on the path."""
+    """A checkout of four crates in a folder of its own, with the stand-in on the path."""
 
     def __init__(self, folder):
         self.top, self.bin = os.path.join(folder, "the check out"), os.path.join(folder, "bin")
-        for crate, file in [("dcr_set", "lib.rt"), ("dcr", "main.rt")]:
+        for crate, file in [("dcr_set", "lib.rt"), ("dcr_base", "lib.rt"), ("dcr_app", "lib.rt"), ("dcr", "main.rt")]:
             os.makedirs("%s/crates/%s/src" % (self.top, crate))
             self.write("crates/%s/src/%s" % (crate, file), "first")
-        self.write("crates.txt", "# values\ndcr_set:\n\n# the program\ndcr: dcr_set\n")
+        self.write("crates.txt", "# values\ndcr_set:\ndcr_base:\n\n# the program\ndcr_app: dcr_set dcr_base\ndcr: dcr_app\nother: dcr_set\n")
         os.mkdir(self.top + "/examples")
         self.write("examples/first.json", "a case")
         self.write("examples/first.report", "first run\na case")
@@ -94,7 +94,7 @@ def check_the_first_call_builds_and_later_ones_run():
     with checkout() as it:
         told = it.dcr("run", SLOW="0.7")
         want_ran(told)
-        want(b"of 2 crates" in told[2] and b"dcr_set" in told[2] and b"so far" in told[2], "it tells too little: %s" % told[2])
+        want(b"of 4 crates" in told[2] and b"dcr_set" in told[2] and b"so far" in told[2], "it tells too little: %s" % told[2])
         want(it.calls() == ["all", "run"], str(it.calls()))
         want(it.dcr("run") == (0, b"first run\ninput", b""), "the second call isn't silent")
         want(it.calls() == ["all", "run"], str(it.calls()))
@@ -139,7 +139,7 @@ def check_from_anywhere():
 
 def check_a_failed_build_runs_nothing():
     with checkout() as it:
-        for fails, log in [("dcr_set", b"dcr_set: not proved"), ("link", b"proved"), ("report", b"first.report")]:
+        for fails, log in [("dcr_set", b"dcr_set: not proved"), ("link", b"dcr_app"), ("report", b"first.report")]:
             status, wrote, said = it.dcr("run", FAILS=fails)
             want((status, wrote) == (FAILED, b"") and log in said, "%s: %s" % (fails, (status, wrote, said)))
         want(it.dcr("run", FAILS="link")[0] == FAILED, "the second time")
@@ -150,12 +150,12 @@ def check_the_old_program_stays_and_is_not_run():
     with checkout() as it:
         it.dcr("run")
         it.change("second")
-        for fails in ("dcr", "link"):
+        for fails in ("dcr_base", "link"):
             status, wrote, said = it.dcr("run", FAILS=fails)
             want((status, wrote) == (FAILED, b""), str((status, wrote, said)))
             want(run([it.top + "/crates/dcr/out/dcr", "run"])[1] == b"first run\n", "the program that worked went")
         it.change("first")
-        want_ran(it.dcr("run", FAILS="dcr"))
+        want_ran(it.dcr("run", FAILS="dcr_base"))
 
 
 def check_a_missing_rt_is_told():
