@@ -149,19 +149,20 @@ class File:
         self.relations = self.part(self.graph, "relations")
         self.cover = self.part(top, "cover")
         self.sessions = self.part(top, "sessions")
-        self.names = [it.get("name").value if it.get("name") else None for it in self.events]
-        self.parents = [it.get("parent").value if it.get("parent") else None for it in self.events]
+        self.names = self.texts(self.events, "name")
+        self.parents = self.texts(self.events, "parent")
         self.nests = {it for it in self.parents if it is not None}
         self.atoms = [it for it in self.names if it not in self.nests]
-        self.sites = [it.get("site").value if it.get("site") else None for it in self.cover]
+        self.sites = self.texts(self.cover, "site")
 
     def part(self, of, name):
         found = of.get(name)
         return found.items if found else []
 
-    def is_version_2(self):
-        found = self.top.get("version")
-        return found is not None and found.value == "2"
+    def texts(self, values, name):
+        """The texts of a member of each, None where there is none."""
+        found = [it.get(name) for it in values]
+        return [it.value if it and it.is_a(str) else None for it in found]
 
     def ways_up(self, name):
         """The names of the event and of all nests that it is in."""

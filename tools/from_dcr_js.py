@@ -106,7 +106,7 @@ def relations_of(graph, there, tell):
 def converted(graph, site, tell):
     """The case of a graph. What is left out is handed to tell."""
     for member in graph:
-        if member not in READ and graph[member] and members(graph[member]) != []:
+        if member not in READ and graph[member] and graph[member] != {"isSet": True, "set": []}:
             tell(LEFT_OUT.get(member, "the member `%s`" % member))
     order, parent = in_order(graph, tell)
     nests, names, sites = set(parent.values()), Names(), Names()
