@@ -95,6 +95,7 @@ def check_the_first_call_builds_and_later_ones_run():
         told = it.dcr("run", SLOW="0.7")
         want_ran(told)
         want(b"of 4 crates" in told[2] and b"dcr_set" in told[2] and b"so far" in told[2], "it tells too little: %s" % told[2])
+        want(all(line.startswith(b"dcr: ") for line in told[2].splitlines()), "another program speaks: %s" % told[2])
         want(it.calls() == ["all", "run"], str(it.calls()))
         want(it.dcr("run") == (0, b"first run\ninput", b""), "the second call isn't silent")
         want(it.calls() == ["all", "run"], str(it.calls()))
