@@ -83,10 +83,13 @@ def check_commands_print_what_the_pages_say():
     if not shutil.which("jq"):
         raise NotTried("some commands need jq, which is not on the path")
     for page, text in pages().items():
+        # (in a folder of its own, where the repository's files stand as links, so that what a command writes goes with it)
         with tempfile.TemporaryDirectory() as room:
+            for name in os.listdir(TOP):
+                os.symlink(os.path.join(TOP, name), os.path.join(room, name))
             for command, lines in commands(text):
-                status, wrote, said = run(["sh", "-c", command.replace("/tmp/", room + "/")], cwd=TOP)
-                shown = (wrote + said).decode().replace(room + "/", "/tmp/")
+                status, wrote, said = run(["sh", "-c", command], cwd=room)
+                shown = (wrote + said).decode()
                 if not is_printed(lines, shown) or (not lines and status):
                     wrong.append("%s: `%s` has status %d and prints\n%s" % (page, command, status, shown))
     want(not wrong, "\n".join(wrong))
