@@ -27,7 +27,7 @@ def examples(ending=".json"):
     return sorted(it[: -len(ending)] for it in os.listdir(EXAMPLES) if it.endswith(ending))
 
 
-def run(command, given=b"", seconds=60, **how):
+def run(command, given=b"", seconds=300, **how):
     """The status of a command that gets these bytes, and what it wrote."""
     if "stdin" not in how:
         how["input"] = given

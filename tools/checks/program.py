@@ -34,7 +34,7 @@ def wrong_report():
 
 
 # A case with a report of some MB.
-def large_case(calls=20_000, atoms=200):
+def large_case(calls=1_000, atoms=200):
     events = [{"name": "event-with-a-name-%d" % k} for k in range(atoms)]
     owned = [event["name"] for event in events]
     file = {"graph": {"events": events}, "cover": [{"site": "s", "events": owned}], "sessions": [["look s"] * calls]}
@@ -119,7 +119,7 @@ def check_a_read_that_would_block_is_a_read_fault():
     for word in ["run", "replay"]:
         ends = os.pipe()
         os.set_blocking(ends[0], False)
-        told = dcr(word, stdin=ends[0], seconds=10)
+        told = dcr(word, stdin=ends[0], seconds=60)
         os.close(ends[0])
         os.close(ends[1])
         want(told[:2] == (READ_FAULT, b""), "%s gives %s" % (word, told))
@@ -155,7 +155,7 @@ def typed(keys, *words):
             while select.select([ours], [], [], 0)[0]:
                 os.read(ours, 65536)
         try:
-            wrote = ran.communicate(timeout=10)[0]
+            wrote = ran.communicate(timeout=30)[0]
         except subprocess.TimeoutExpired:
             ran.kill()
             wrote = ran.communicate()[0] + b" (it still waited, and was killed)"
@@ -229,9 +229,9 @@ def with_memory(kib, *words, given=b""):
 
 
 def check_want_of_memory_is_told_by_its_status():
-    given, whole = large_case(200_000, 1), None
+    given, whole = large_case(50_000, 1), None
     found = []
-    for kib in range(4_000, 160_000, 4_000):
+    for kib in range(4_000, 100_000, 4_000):
         status, wrote, _ = with_memory(kib, "run", given=given)
         whole = whole or dcr("run", given=given)[1]
         want(status in (NO_MEMORY, DONE) or not wrote, "%d KiB give status %d" % (kib, status))

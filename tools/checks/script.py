@@ -94,7 +94,7 @@ def check_the_first_call_builds_and_later_ones_run():
     with checkout() as it:
         told = it.dcr("run", SLOW="0.7")
         want_ran(told)
-        want(b"of 4 crates" in told[2] and b"dcr_set" in told[2] and b"so far" in told[2], "it tells too little: %s" % told[2])
+        want(b"of 4 crates, last dcr_" in told[2] or b"of 4 crates, now dcr_" in told[2] and b"so far" in told[2], "it tells too little: %s" % told[2])
         want(all(line.startswith(b"dcr: ") for line in told[2].splitlines()), "another program speaks: %s" % told[2])
         want(it.calls() == ["all", "run"], str(it.calls()))
         want(it.dcr("run") == (0, b"first run\ninput", b""), "the second call isn't silent")
@@ -192,7 +192,7 @@ def check_two_calls_at_once_build_once():
     with checkout() as it:
         both = [it.begin("run", SLOW="0.5") for _ in range(2)]
         for ran in both:
-            wrote, said = ran.communicate(b"input", timeout=60)
+            wrote, said = ran.communicate(b"input", timeout=300)
             want_ran((ran.returncode, wrote, said))
         want(it.calls() == ["all", "run"], str(it.calls()))
 
@@ -217,11 +217,11 @@ def ended(number, process_group):
     """Begins a slow build, sends a signal to the script or to its whole group, and gives how it ended and what it wrote."""
     with checkout() as it:
         ran = it.begin("run", SLOW="2")
-        deadline = time.monotonic() + 20
+        deadline = time.monotonic() + 60
         while not it.calls() and time.monotonic() < deadline:
             time.sleep(0.05)
         (os.killpg if process_group else os.kill)(ran.pid, number)
-        wrote, said = ran.communicate(b"input", timeout=60)
+        wrote, said = ran.communicate(b"input", timeout=300)
         want(ran.returncode == -number and wrote == b"" and b"interrupted" in said, str((ran.returncode, wrote, said)))
         want_ran(it.dcr("run"))
 
@@ -240,7 +240,7 @@ def check_a_change_during_the_build_is_seen():
         while not it.calls():
             time.sleep(0.05)
         it.write("crates/dcr_set/src/lib.rt", "changed")
-        wrote, said = ran.communicate(b"input", timeout=60)
+        wrote, said = ran.communicate(b"input", timeout=300)
         want((ran.returncode, wrote) == (FAILED, b"") and b"changed" in said, str((ran.returncode, wrote, said)))
         want_ran(it.dcr("run"))
 
