@@ -1,0 +1,6 @@
+mod Covering
+mod Counting
+mod Keeping
+mod Visiting
+mod Passing
+mod GivingOut
