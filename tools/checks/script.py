@@ -189,6 +189,8 @@ def check_a_checkout_that_can_t_be_written():
                 os.chmod(it.top + folder, 0o555 if is_locked else 0o755)
 
     # As root every folder can be written, so the script runs as nobody there.
+    if not os.geteuid() and not shutil.which("setpriv"):
+        raise NotTried("setpriv is not on the path")
     own = [] if os.geteuid() else ["setpriv", "--reuid=65534", "--regid=65534", "--clear-groups"]
     with checkout() as it:
         os.chmod(os.path.dirname(it.top), 0o755)
