@@ -186,7 +186,7 @@ def draw_own(case):
 
 def dot_of(case):
     """The case as Graphviz text: a nest is a cluster, and an end of a relation that is a nest lies at one of its atoms."""
-    lines = ["digraph {", "compound=true; rankdir=LR; node [shape=plaintext, fontname=Helvetica, fontsize=12]; edge [arrowsize=0.8];"]
+    lines = ["digraph {", "compound=true; rankdir=LR; fontname=Helvetica; fontsize=12; node [shape=plaintext, fontname=Helvetica, fontsize=12]; edge [arrowsize=0.8, fontname=Helvetica];"]
     parents = {event.get("parent") for event in case.events}
 
     def add(event):
@@ -306,7 +306,7 @@ def main(words):
             case = Case(text)
             drawn = draw_own(case) if words[0] == "own" or words[0] == "case" and not shutil.which("dot") else dot_of(case)
             if words[0] == "case" and shutil.which("dot"):
-                drawn = subprocess.run(["dot", "-Tsvg"], input=drawn.encode(), stdout=subprocess.PIPE, check=True).stdout.decode()
+                drawn = subprocess.run(["dot", "-Tsvg"], input=drawn.encode(), stdout=subprocess.PIPE, stderr=subprocess.DEVNULL, check=True).stdout.decode()
     except (KeyError, ValueError, TypeError, AttributeError, IndexError, StopIteration):
         sys.exit("%s: dcr would refuse this: run it first, and tools/explain.py tells what is wrong" % words[1])
     sys.stdout.write(drawn)

@@ -185,6 +185,8 @@ def check_nothing_is_read_behind_the_end_of_what_is_typed():
 
 
 def check_a_full_device_as_output_is_a_write_fault():
+    if not os.path.exists("/dev/full"):
+        raise NotTried("there is no /dev/full")
     inputs = [(["run"], read("examples/first.json")), (["run"], large_case()), (["run"], b"{"), (["replay"], read("examples/first.report"))]
     inputs += [(["replay"], wrong_report()), ([], b""), (["run", "x"], b""), ([b"\xff"], b"")]
     for words, given in inputs:

@@ -2,13 +2,14 @@
 
 import contextlib
 import os
+import pty
 import shutil
 import signal
 import subprocess
 import tempfile
 import time
 
-from checks import TOP, run, want
+from checks import TOP, NotTried, run, want
 
 # The stand-in proves nothing: it waits, tells what rt tells, and makes a program of the shell that tells its words.
 RT = """#!/bin/sh
@@ -101,6 +102,20 @@ def check_the_first_call_builds_and_later_ones_run():
         want(it.calls() == ["all", "run"], str(it.calls()))
 
 
+def check_on_a_terminal_one_line_is_written_anew():
+    try:
+        ours, theirs = pty.openpty()
+    except OSError as error:
+        raise NotTried("no terminal can be made: %s" % error) from None
+    with checkout() as it:
+        ran = subprocess.run([it.top + "/dcr", "run"], input=b"input", env=it.environment, stdout=subprocess.PIPE, stderr=theirs, timeout=300)
+    os.close(theirs)
+    said = os.read(ours, 65536)
+    os.close(ours)
+    want_ran((ran.returncode, ran.stdout, said))
+    want(b"\rdcr: proved and compiled" in said and said.count(b"\n") == 2 and said.endswith(b"\n"), str(said))
+
+
 def check_words_input_and_status_are_handed_on():
     with checkout() as it:
         it.dcr("run")
@@ -174,6 +189,8 @@ def check_a_checkout_that_can_t_be_written():
                 os.chmod(it.top + folder, 0o555 if is_locked else 0o755)
 
     # As root every folder can be written, so the script runs as nobody there.
+    if not os.geteuid() and not shutil.which("setpriv"):
+        raise NotTried("setpriv is not on the path")
     own = [] if os.geteuid() else ["setpriv", "--reuid=65534", "--regid=65534", "--clear-groups"]
     with checkout() as it:
         os.chmod(os.path.dirname(it.top), 0o755)
