@@ -1,4 +1,5 @@
 pub mod Covers
+pub mod Laws
 pub mod TurnId
 pub mod FrontValue
 pub mod PassValue
