@@ -7,6 +7,7 @@ import shutil
 import tempfile
 
 from checks import EXAMPLES, TOP, NotTried, read, run, want
+from checks.program import prepare  # noqa: F401
 
 # Commands that a reader calls and that take minutes, or that change what is not the repository's.
 NOT_RUN = re.compile(r"(rt |\.ci/run$|git |cd |ln -s|cp crates/dcr/out/dcr|bench/)")

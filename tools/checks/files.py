@@ -14,6 +14,7 @@ import tempfile
 import xml.etree.ElementTree
 
 from checks import EXAMPLES, TOP, examples, read, run, want
+from checks.program import prepare  # noqa: F401
 
 sys.path[:0] = [os.path.join(TOP, "tools"), os.path.join(TOP, "bench")]
 from model import Case, random_case  # noqa: E402

@@ -1,5 +1,6 @@
 """The program as a process: what it is asked, what it reads and writes, and the status that it ends with."""
 
+import functools
 import json
 import os
 import pty
@@ -15,6 +16,7 @@ PROGRAM = os.path.join(TOP, "crates/dcr/out/dcr")
 DONE, USAGE, REFUSED, READ_FAULT, WRITE_FAULT, NO_MEMORY, INVALID = 0, 2, 3, 4, 5, 6, 8
 
 
+@functools.cache
 def prepare():
     """Builds the program where `./dcr` finds that it isn't built."""
     subprocess.run([os.path.join(TOP, "dcr"), "run"], input=read("examples/first.json"), stdout=subprocess.DEVNULL)
