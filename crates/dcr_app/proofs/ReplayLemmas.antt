@@ -11,10 +11,9 @@ use Rattle.dcr_replay.specs.OneVerdict.{VerdictIsOne}
 use Rattle.dcr_replay.specs.declared.verdict.Verdict.{Verdict}
 use Rattle.dcr_replay.specs.declared.verdict.Verdict.TheVariants as verdict
 use Rattle.dcr_replay.specs.declared.verdict.Wrong.{Wrong}
-use Rattle.dcr_app.specs.Answers.{AnswersReport, Finds, IsAnsweredReport, IsChecked, Refuses, SaysInvalid, SaysValid, WroteFound, verdict_line, verdict_status}
+use Rattle.dcr_app.specs.Answers.{AnswersReport, Finds, IsAnsweredReport, IsChecked, SaysInvalid, SaysValid, WroteFound, verdict_line, verdict_status}
 use Rattle.dcr_app.specs.Outside.{IsDue, IsSilent, WereLeft, Wrote}
 use Rattle.dcr_app.specs.Refusal.{refusal_line}
-use Rattle.dcr_app.specs.declared.command.Command.TheVariants.{Replay}
 use Rattle.dcr_app.proofs.OutsideLemmas.{ends_as, longer_than, were_left, wrote_at}
 
 -- the line of a verdict is due
@@ -110,24 +109,6 @@ invalid_by left had took bytes (Some (verdict.Invalid number kind)) law one firs
 pub says_invalid : (left had took : Option (List ℕ)) (status : Status) → ValidIsReport → VerdictIsOne → LeastIsTold → status ≡ Invalid → AnswersReport left had took status → SaysInvalid left had took
 says_invalid left had took status law one first is answer =
     let t = told_at left had took status Invalid is (λ e. absurd cc) (λ e. absurd cc) answer in invalid_by left had took t.bytes t.found law one first t.read t.finds t.line
-
-refuses_by : (left had took : Option (List ℕ)) (bytes : List ℕ) (found : Option Verdict) → WereLeft left bytes → Finds bytes found → WroteFound found Refused had took → Refuses (Some Replay) left had took
-refuses_by left had took bytes None read finds line = (of_left (λ it. 268435456 < length it) left bytes read finds, line.1)
-refuses_by left had took bytes (Some (verdict.Valid count)) read finds line = let wrong : Refused ≡ Done = line.0 in absurd cc
-refuses_by left had took bytes (Some (verdict.Invalid number kind)) read finds line = let wrong : Refused ≡ Invalid = line.0 in absurd cc
-
-pub refuses_replay : (left had took : Option (List ℕ)) (status : Status) → status ≡ Refused → AnswersReport left had took status → Refuses (Some Replay) left had took
-refuses_replay left had took status is answer =
-    let t = told_at left had took status Refused is (λ e. absurd cc) (λ e. absurd cc) answer in refuses_by left had took t.bytes t.found t.read t.finds t.line
-
-usage_by : (had took : Option (List ℕ)) (found : Option Verdict) → WroteFound found Usage had took → ⊥
-usage_by had took None line = let wrong : Usage ≡ Refused = line.0 in absurd cc
-usage_by had took (Some (verdict.Valid count)) line = let wrong : Usage ≡ Done = line.0 in absurd cc
-usage_by had took (Some (verdict.Invalid number kind)) line = let wrong : Usage ≡ Invalid = line.0 in absurd cc
-
-pub no_usage_replay : (left had took : Option (List ℕ)) (status : Status) → AnswersReport left had took status → status ≢ Usage
-no_usage_replay left had took status answer = λ usage.
-    let t = told_at left had took status Usage usage (λ e. absurd cc) (λ e. absurd cc) answer in usage_by had took t.found t.line
 
 -- ---- what an input and an output that don't fail end with
 

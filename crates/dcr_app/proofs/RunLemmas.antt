@@ -26,13 +26,13 @@ use Rattle.dcr_run.specs.RunOf.{IsRunOf}
 use Rattle.dcr_shape.specs.Stages.{◌>>=◌}
 use Rattle.dcr_json.specs.Case.{case_in}
 use Rattle.dcr_json.specs.Judged.{Spelled}
+use Rattle.dcr_json.specs.Refusals.{CasesAreTheFormats, SpellsCase}
 use Rattle.dcr_json.specs.declared.case.CaseStop.{CaseStop}
 use Rattle.dcr_json.specs.declared.case.CaseStop.TheVariants as stop
-use Rattle.dcr_app.specs.Answers.{AnswersCase, IsRefused, Refuses, WroteReport, IsDoneThroughout, IsAnsweredCase}
+use Rattle.dcr_app.specs.Answers.{AnswersCase, IsRefused, WroteReport, IsDoneThroughout, IsAnsweredCase}
 use Rattle.dcr_app.specs.Headline.{Headline, rules_in}
 use Rattle.dcr_app.specs.Outside.{IsSilent, WereLeft, Wrote}
 use Rattle.dcr_app.specs.Refusal.{refusal_line}
-use Rattle.dcr_app.specs.declared.command.Command.TheVariants.{Run}
 use Rattle.dcr_app.proofs.OutsideLemmas.{ends_as, longer_than, were_left, wrote_at}
 
 -- ---- a run of the case
@@ -45,16 +45,16 @@ pub legal_by : (G H : Rules) (C : List Set) (M : Marking) (J : List Entry) → G
 legal_by G H C M J same legal = let P : Rules → Type 0 = λ R. IsLegal R C M J in subst P same legal
 
 -- the headline of the run of a case that these bytes spell
-pub headline : (bytes : List ℕ) (case : Spelled) (closed : Closed) (status : Status) (had took : Option (List ℕ)) → case_in bytes ≡ Ok case
+pub headline : CasesAreTheFormats → (bytes : List ℕ) (case : Spelled) (closed : Closed) (status : Status) (had took : Option (List ℕ)) → case_in bytes ≡ Ok case
     → IsRunOf (rules_in case) case.cover.owned case.opening case.sessions closed → IsLegal (rules_in case) case.cover.owned case.opening closed.history.entries
     → HasNoFault closed.history.entries → Wrote Done (report_text case.nested case.cover closed.opening closed.history.entries) status had took
     → Headline (Some bytes) ⊤ had took status closed
-headline bytes case closed status had took spelled run legal no_fault wrote =
+headline law bytes case closed status had took spelled run legal no_fault wrote =
     let G = rules_in case in let C = case.cover.owned in let M = case.opening in
     let P : List Entry → Type 0 = λ J. All (λ (entry : Entry). entry.session < length case.sessions) J in
     record {
       case = case;
-      input = (bytes, refl, spelled, tt);
+      input = (bytes, refl, (law bytes case).0 spelled, tt);
       history = (run.opening, legal, λ done. no_fault);
       sessions = (λ k. ap (calls_of k) run.history ∙ told_has_each_call_lem G C M case.sessions k, subst P (sym run.history) (told_has_no_other_session G C M case.sessions));
       order = run.history;
@@ -111,7 +111,7 @@ answers_from left has_ended bytes had took status None same ended (inr it) = inr
 })
 answers_from left has_ended bytes had took status (Some closed) same ended it = record {
   case = it.case;
-  input = (bytes, were_left left bytes same, ap case_in it.input.1 ∙ it.input.2, ended);
+  input = (bytes, were_left left bytes same, subst (λ b. SpellsCase b it.case) (sym it.input.1) it.input.2, ended);
   history = it.history;
   sessions = it.sessions;
   order = it.order;
@@ -119,23 +119,12 @@ answers_from left has_ended bytes had took status (Some closed) same ended it = 
   report = it.report;
 }
 
--- ---- a refusal
+-- the case is the one that the bytes are read as
+read_as : CasesAreTheFormats → (bytes : List ℕ) (has_ended : Type 0) (had took : Option (List ℕ)) (status : Status) (closed : Closed)
+    → (it : Headline (Some bytes) has_ended had took status closed) → case_in bytes ≡ Ok it.case
+read_as law bytes has_ended had took status closed it = ap case_in it.input.1 ∙ (law it.input.0 it.case).1 it.input.2
 
-pub is_starved : (why : CaseStop) → (why ≡ stop.NoMemory) ⊎ (why ≢ stop.NoMemory)
-is_starved stop.NoMemory = inl refl
-is_starved stop.TooLong = inr (λ e. absurd cc)
-is_starved stop.NotJson = inr (λ e. absurd cc)
-is_starved (stop.Shape part i) = inr (λ e. absurd cc)
-is_starved (stop.Limit kind n) = inr (λ e. absurd cc)
-is_starved (stop.EventName i) = inr (λ e. absurd cc)
-is_starved (stop.Parent i) = inr (λ e. absurd cc)
-is_starved (stop.MarkOnNest i) = inr (λ e. absurd cc)
-is_starved (stop.RelationEnd i) = inr (λ e. absurd cc)
-is_starved (stop.Clash a b) = inr (λ e. absurd cc)
-is_starved (stop.SiteName i) = inr (λ e. absurd cc)
-is_starved (stop.Owned i j) = inr (λ e. absurd cc)
-is_starved (stop.Uncovered a) = inr (λ e. absurd cc)
-is_starved (stop.CallLine k j) = inr (λ e. absurd cc)
+-- ---- a refusal
 
 -- bytes that are refused, by the line of their refusal
 pub refused_by : (left : Option (List ℕ)) (has_ended : Type 0) (bytes : List ℕ) (why : CaseStop) (had took : Option (List ℕ)) (status : Status) (told : Option Closed)
@@ -174,76 +163,6 @@ told_done left has_ended had took status named closed it is =
     let P : Status → Type 0 = λ s. (s ≡ Done) ⊎ ((s ≡ WriteFault) ⊎ (s ≡ NoMemory)) in
     subst P is (ends_as Done (report_text it.case.nested it.case.cover closed.opening closed.history.entries) status had took it.report)
 
-pub refuses_run : (left : Option (List ℕ)) (has_ended : Type 0) (had took : Option (List ℕ)) (status : Status) (told : Option Closed) → AnswersCase left has_ended had took status told
-    → status ≡ Refused → Refuses (Some Run) left had took
-refuses_run left has_ended had took status (Some closed) it is = elim (told_done left has_ended had took status Refused closed it is) [
-  | inl e ↦ absurd cc
-  | inr other ↦ elim other [
-    | inl e ↦ absurd cc
-    | inr e ↦ absurd cc
-  ]
-]
-refuses_run left has_ended had took status None (inl silent) is = elim silent.0 [
-  | inl e ↦ let wrong : Refused ≡ ReadFault = sym is ∙ e in absurd cc
-  | inr e ↦ let wrong : Refused ≡ NoMemory = sym is ∙ e in absurd cc
-]
-refuses_run left has_ended had took status None (inr it) is =
-    (it.bytes, it.read, (it.why, it.refuses, it.named, (wrote_at Refused (refusal_line it.why) status Refused had took is tt it.line).1))
-
--- the statuses that come in `run`
-abbrev pub RunEnds : Status → Type 0
-RunEnds status = (status ≡ Done) ⊎ ((status ≡ Refused) ⊎ ((status ≡ WriteFault) ⊎ ((status ≡ NoMemory) ⊎ (status ≡ ReadFault))))
-
-pub run_ends : (left : Option (List ℕ)) (has_ended : Type 0) (had took : Option (List ℕ)) (status : Status) (told : Option Closed) → AnswersCase left has_ended had took status told → RunEnds status
-run_ends left has_ended had took status (Some closed) it = elim (told_done left has_ended had took status status closed it refl) [
-  | inl e ↦ inl e
-  | inr other ↦ elim other [
-    | inl e ↦ inr (inr (inl e))
-    | inr e ↦ inr (inr (inr (inl e)))
-  ]
-]
-run_ends left has_ended had took status None (inl silent) = elim silent.0 [
-  | inl e ↦ inr (inr (inr (inr e)))
-  | inr e ↦ inr (inr (inr (inl e)))
-]
-run_ends left has_ended had took status None (inr it) = elim (ends_as Refused (refusal_line it.why) status had took it.line) [
-  | inl e ↦ inr (inl e)
-  | inr other ↦ elim other [
-    | inl e ↦ inr (inr (inl e))
-    | inr e ↦ inr (inr (inr (inl e)))
-  ]
-]
-
-pub no_usage_run : (status : Status) → RunEnds status → status ≢ Usage
-no_usage_run status ends = λ usage. elim ends [
-  | inl e ↦ let wrong : Usage ≡ Done = sym usage ∙ e in absurd cc
-  | inr other ↦ elim other [
-    | inl e ↦ let wrong : Usage ≡ Refused = sym usage ∙ e in absurd cc
-    | inr more ↦ elim more [
-      | inl e ↦ let wrong : Usage ≡ WriteFault = sym usage ∙ e in absurd cc
-      | inr last ↦ elim last [
-        | inl e ↦ let wrong : Usage ≡ NoMemory = sym usage ∙ e in absurd cc
-        | inr e ↦ let wrong : Usage ≡ ReadFault = sym usage ∙ e in absurd cc
-      ]
-    ]
-  ]
-]
-
-pub no_invalid_run : (status : Status) → RunEnds status → status ≢ Invalid
-no_invalid_run status ends = λ usage. elim ends [
-  | inl e ↦ let wrong : Invalid ≡ Done = sym usage ∙ e in absurd cc
-  | inr other ↦ elim other [
-    | inl e ↦ let wrong : Invalid ≡ Refused = sym usage ∙ e in absurd cc
-    | inr more ↦ elim more [
-      | inl e ↦ let wrong : Invalid ≡ WriteFault = sym usage ∙ e in absurd cc
-      | inr last ↦ elim last [
-        | inl e ↦ let wrong : Invalid ≡ NoMemory = sym usage ∙ e in absurd cc
-        | inr e ↦ let wrong : Invalid ≡ ReadFault = sym usage ∙ e in absurd cc
-      ]
-    ]
-  ]
-]
-
 -- ---- a session that spells a run
 
 case_or : Spelled → Result Spelled CaseStop → Spelled
@@ -254,12 +173,12 @@ one_case : (bytes : List ℕ) (case other : Spelled) → case_in bytes ≡ Ok ca
 unfolding case_or
 one_case bytes case other is also = ap (case_or case) (sym also ∙ is)
 
-pub done_throughout : (left : Option (List ℕ)) (has_ended : Type 0) (had took : Option (List ℕ)) (status : Status) (told : Option Closed) → AnswersCase left has_ended had took status told
+pub done_throughout : CasesAreTheFormats → (left : Option (List ℕ)) (has_ended : Type 0) (had took : Option (List ℕ)) (status : Status) (told : Option Closed) → AnswersCase left has_ended had took status told
     → IsDoneThroughout left told
-done_throughout None has_ended had took status told it = tt
-done_throughout (Some bytes) has_ended had took status None it = λ case events executions is run spell one. tt
-done_throughout (Some bytes) has_ended had took status (Some closed) it = λ case events executions is run spell one.
-    let same : it.case ≡ case = one_case bytes case it.case is (ap case_in it.input.1 ∙ it.input.2) in
+done_throughout law None has_ended had took status told it = tt
+done_throughout law (Some bytes) has_ended had took status None it = λ case events executions is run spell one. tt
+done_throughout law (Some bytes) has_ended had took status (Some closed) it = λ case events executions is run spell one.
+    let same : it.case ≡ case = one_case bytes case it.case is (read_as law bytes has_ended had took status closed it) in
     let AllDone : List Entry → Type 0 = λ J. All (λ (entry : Entry). entry.outcome ≡ outcome.Done) J in
     let history = it.order ∙ ap (λ (c : Spelled). told (rules_in c) c.cover.owned c.opening c.sessions) same ∙ ap (told (rules_in case) case.cover.owned case.opening) one in
     subst AllDone (sym history) (a_run_is_done_lem (rules_in case) case.cover.owned case.opening events executions run spell)
@@ -270,23 +189,23 @@ starved_case : (case : Result Spelled CaseStop) (status : Status) → status ≡
 starved_case (Ok case) status is = inr is
 starved_case (Err why) status is = inr is
 
-pub answered_case : (left : Option (List ℕ)) (has_ended : Type 0) (had took : Option (List ℕ)) (status : Status) (told : Option Closed) → (status ≡ ReadFault → ⊥) → (status ≡ WriteFault → ⊥)
+pub answered_case : CasesAreTheFormats → (left : Option (List ℕ)) (has_ended : Type 0) (had took : Option (List ℕ)) (status : Status) (told : Option Closed) → (status ≡ ReadFault → ⊥) → (status ≡ WriteFault → ⊥)
     → AnswersCase left has_ended had took status told → IfSome left (λ bytes. IsAnsweredCase (case_in bytes) status)
-answered_case None has_ended had took status told reads writes it = tt
-answered_case (Some bytes) has_ended had took status (Some closed) reads writes it =
+answered_case law None has_ended had took status told reads writes it = tt
+answered_case law (Some bytes) has_ended had took status (Some closed) reads writes it =
     let P : Result Spelled CaseStop → Type 0 = λ c. IsAnsweredCase c status in
-    subst P (sym (ap case_in it.input.1 ∙ it.input.2)) (elim (told_done (Some bytes) has_ended had took status status closed it refl) [
+    subst P (sym (read_as law bytes has_ended had took status closed it)) (elim (told_done (Some bytes) has_ended had took status status closed it refl) [
       | inl e ↦ inl e
       | inr other ↦ elim other [
         | inl e ↦ absurd (writes e)
         | inr e ↦ inr e
       ]
     ])
-answered_case (Some bytes) has_ended had took status None reads writes (inl silent) = elim silent.0 [
+answered_case law (Some bytes) has_ended had took status None reads writes (inl silent) = elim silent.0 [
   | inl e ↦ absurd (reads e)
   | inr e ↦ starved_case (case_in bytes) status e
 ]
-answered_case (Some bytes) has_ended had took status None reads writes (inr it) =
+answered_case law (Some bytes) has_ended had took status None reads writes (inr it) =
     let P : Result Spelled CaseStop → Type 0 = λ c. IsAnsweredCase c status in
     subst P (sym (ap case_in it.read ∙ it.refuses)) (elim (ends_as Refused (refusal_line it.why) status had took it.line) [
       | inl e ↦ inl e

@@ -1,5 +1,5 @@
 -- The headline: the run that `run` tells of is the journal of one run of the whole graph.
-use Rattle.std.specs.Prelude.{◌≡◌, ℕ, ◌<◌, List, [], length, slice_index_or, Option, Ok}
+use Rattle.std.specs.Prelude.{◌≡◌, ℕ, ◌<◌, List, [], length, slice_index_or, Option}
 use Rattle.std.specs.List.{All}
 use Rattle.dcr_base.specs.declared.status.Status.{Status}
 use Rattle.dcr_base.specs.declared.status.Status.TheVariants.{Done}
@@ -9,8 +9,8 @@ use Rattle.dcr_nest.specs.FlatRelation.{flat_relation}
 use Rattle.dcr_journal.specs.Run.{after, calls_of, told, marks_at, HasNoFault, IsLegal}
 use Rattle.dcr_journal.specs.declared.call.Entry.{Entry}
 use Rattle.dcr_journal.specs.declared.closed.Closed.{Closed}
-use Rattle.dcr_json.specs.Case.{case_in}
 use Rattle.dcr_json.specs.Judged.{Spelled}
+use Rattle.dcr_json.specs.Refusals.{SpellsCase}
 use Rattle.dcr_report.specs.Report.{report_text}
 use Rattle.dcr_app.specs.Outside.{WereLeft, Wrote}
 
@@ -24,7 +24,7 @@ rules_in case = flat_relation case.nested
 pub record Headline (left : Option (List ℕ)) (has_ended : Type 0) (had took : Option (List ℕ)) (status : Status) (closed : Closed) : Type 0 where
   pub case : Spelled
   -- 1. The bytes that the input had left at entry spell the case, and none is left.
-  pub input : (bytes : List ℕ) × WereLeft left bytes × (case_in bytes ≡ Ok case) × has_ended
+  pub input : (bytes : List ℕ) × WereLeft left bytes × SpellsCase bytes case × has_ended
   -- 2. The run begins with the opening marking of the case. Its history is a run of the whole graph, in which each call
   -- has the graph's answer at its place; with `Done` no execution failed.
   pub history : (closed.opening ≡ case.opening)

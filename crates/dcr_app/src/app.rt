@@ -13,6 +13,7 @@ use crate::run::run;
 use crate::say::say;
 use dcr_base::{Sink, Source, Status};
 use dcr_journal::Closed;
+use dcr_json::when_each_refusal_comes;
 use dcr_replay::{a_text_has_one_verdict, the_first_wrong_line_is_told, valid_is_report};
 use std::alloc::Global;
 
@@ -81,7 +82,11 @@ pub fn dcr<R, I: Source, O: Sink>(
 {
     match command_of(words) {
         None => say(output, b"usage\n", Status::Usage),
-        Some(Command::Run) => run(alloc, input, output),
+        Some(Command::Run) => {
+            // What the bytes of a case say, for the clauses on `run`.
+            when_each_refusal_comes();
+            run(alloc, input, output)
+        }
         Some(Command::Replay) => {
             // What the definition of the first wrong line says, for the clauses on `replay`.
             valid_is_report();

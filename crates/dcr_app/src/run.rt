@@ -18,7 +18,7 @@ use crate::say::{refuse, silent};
 use dcr_base::{ReadStop, Sink, Source, Status, read_all};
 use dcr_graph::Graph;
 use dcr_journal::Closed;
-use dcr_json::{Case, CaseStop, read_case};
+use dcr_json::{Case, CaseStop, read_case, when_each_refusal_comes};
 use dcr_nest::Nested;
 use dcr_proj::Cover;
 use dcr_report::{ReportStop, write_report};
@@ -84,6 +84,8 @@ fn run_and_report<O: Sink>(alloc: Global, case: Case, output: &mut O) -> End
         opening,
         sessions,
     } = case;
+    // What the bytes of a case say, for the headline.
+    when_each_refusal_comes();
     match run_case(alloc, &graph, &cover, opening, sessions.all()) {
         Ok(closed) => report(alloc, &nested, &graph, &cover, closed, output),
         Err(_) => silent(Status::NoMemory),

@@ -34,7 +34,8 @@ pub(crate) fn read_sites<S: AsSiteText>(
     Ok((names, owned))
 }
 
-// The name of a site and what it owns.
+// The name of a site and what it owns. A bad name is told whatever memory there is; memory is taken for a good one,
+// before its texts are looked at.
 #[tactic(auto, unfolding(crate::specs::Told::site_stop))]
 fn read_site<S: AsSiteText>(
     alloc: Global,
@@ -49,6 +50,7 @@ fn read_site<S: AsSiteText>(
     ensures owned { IfOk result (λ site. site.1 ≡ set_meant index.now (site_at (map S.written sites.now) i).1) }
     ensures good { OnOk result (site_stop index.now (map S.written sites.now) i ≡ None) }
     ensures stop { IfErr result (λ stop. stop ≢ NoMemory → site_stop index.now (map S.written sites.now) i ≡ Some stop) }
+    ensures want { IfErr result (λ stop. stop ≡ NoMemory → has_bad_name (map S.written sites.now) i ≡ false) }
 {
     let name = read_name(alloc, sites, i)?;
     match read_owned(index, &sites[i]) {
@@ -57,13 +59,15 @@ fn read_site<S: AsSiteText>(
     }
 }
 
-// The name of a site, which is a name and no earlier site's.
+// The name of a site, which is a name and no earlier site's. Memory is taken only once the name is good, so that
+// want of memory never stands for a bad name.
 fn read_name<S: AsSiteText>(alloc: Global, sites: &[S], i: usize) -> Result<Name, CoverStop>
     requires most { length sites.now ≤ 64 }
     requires within { i < length sites.now }
     ensures name { IfOk result (λ name. name ≡ (site_at (map S.written sites.now) i).0) }
     ensures good { OnOk result (has_bad_name (map S.written sites.now) i ≡ false) }
     ensures bad { IfErr result (λ stop. stop ≢ NoMemory → (stop ≡ SiteName i) × (has_bad_name (map S.written sites.now) i ≡ true)) }
+    ensures want { IfErr result (λ stop. stop ≡ NoMemory → has_bad_name (map S.written sites.now) i ≡ false) }
 {
     let text = sites[i].name();
     if is_named_before(sites, i, text) {

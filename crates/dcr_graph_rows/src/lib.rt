@@ -14,6 +14,8 @@ mod line;
 #[cfg(test)]
 mod mark;
 #[cfg(test)]
+mod names;
+#[cfg(test)]
 mod proj;
 #[cfg(test)]
 mod run;

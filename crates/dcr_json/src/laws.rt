@@ -1,4 +1,3 @@
-ghost use Rattle.dcr_json.specs.Built.{BuiltIsAccepted};
 ghost use Rattle.dcr_json.specs.Opens.{OpeningIsWritten};
 ghost use Rattle.dcr_json.specs.Refusals.{CasesAreTheFormats, NeverRefuses, OneOfTheTwo, RefusalsAreTheFormats};
 ghost use Rattle.dcr_json.specs.declared.case.CaseStop.TheVariants.{NoMemory};
@@ -23,10 +22,4 @@ pub fn no_bytes_want_memory()
 /// that name of its event's object is true, and included unless it is false.
 pub fn opening_is_written()
     ensures { OpeningIsWritten }
-{}
-
-/// What a reader's case may be counted on is that it is an accepted one, and that its graph is the flat graph of its
-/// nested one.
-pub fn built_is_accepted()
-    ensures { BuiltIsAccepted }
 {}

@@ -161,3 +161,55 @@ fn measures_names(rt: HostRuntime) -> Result<(), Fail> {
     }
     Ok(())
 }
+
+// One event more than 2,047, of which the first is `a` and the others stand below one another.
+fn last_event_told(alloc: Global, event: &str) -> Result<String, AllocError> {
+    let nodes = chain(alloc, 2_047)?;
+    format!(in alloc; "{nodes},{event}")
+}
+
+#[test]
+fn the_last_event_is_told(rt: HostRuntime) -> Result<(), Fail> {
+    let alloc = rt.alloc();
+    for (event, answer) in [
+        (r#"{"name":"z","parent":"e2046"}"#, "read"),
+        (r#"{"name":"e2046"}"#, "event-name 2047"),
+        (r#"{"name":"9"}"#, "event-name 2047"),
+        (r#"{"name":"z","parent":"z"}"#, "parent 2047"),
+    ] {
+        let events = last_event_told(alloc, event)?;
+        let events = events.as_str();
+        assert_told(&rt, alloc, &Parts { events, ..LEAST }, answer)?;
+    }
+    Ok(())
+}
+
+#[test]
+fn the_last_relation_is_told(rt: HostRuntime) -> Result<(), Fail> {
+    let alloc = rt.alloc();
+    let others = repeated(alloc, r#"["response","a","a"]"#, 4_095)?;
+    let relations = format!(in alloc; "{others},[\"response\",\"a\",\"z\"]")?;
+    let relations = relations.as_str();
+    assert_told(
+        &rt,
+        alloc,
+        &Parts { relations, ..LEAST },
+        "relation-end 4095",
+    )?;
+    Ok(())
+}
+
+#[test]
+fn the_last_site_is_told(rt: HostRuntime) -> Result<(), Fail> {
+    let alloc = rt.alloc();
+    for (site, answer) in [
+        (r#"{"site":"x","events":["z"]}"#, "site-name 63"),
+        (r#"{"site":"y","events":["a","z"]}"#, "owned 63 1"),
+    ] {
+        let others = numbered(alloc, "{\"site\":\"s", "\",\"events\":[]}", 62)?;
+        let cover = format!(in alloc; "{}{others},{site}", LEAST.cover)?;
+        let cover = cover.as_str();
+        assert_told(&rt, alloc, &Parts { cover, ..LEAST }, answer)?;
+    }
+    Ok(())
+}

@@ -16,7 +16,7 @@ use Rattle.dcr_set.proofs.NumbersLemmas.{numbers-ascend, numbers-below, numbers-
 use Rattle.dcr_graph.specs.Names.{AreDistinct, is_letter, is_name, is_name_byte, number_of}
 use Rattle.dcr_line.specs.Known.{AreNames}
 use Rattle.dcr_line.specs.Line.{comma_names, list_text, name_of, names_text}
-use Rattle.dcr_line.specs.MarkLine.{ascends_from, each, from_low, list_in, listed_in, set_of}
+use Rattle.dcr_line.specs.MarkLine.{ascends_from, each, from_low, list_in, listed_in, set_numbered}
 use Rattle.dcr_line.specs.PiecesModel.{pieces_of}
 use Rattle.dcr_line.proofs.CallLemmas.{chosen, is_word}
 use Rattle.dcr_line.proofs.NameLemmas.{found_at, name_found, name_lacks}
@@ -73,7 +73,7 @@ fold_with set (e ∷ events) =
     turned false false c = refl
 
 -- the atoms added to the empty set
-fold_none : (n : ℕ) (events : List ℕ) → fold with_event (no_event n) events ≡ set_of n events
+fold_none : (n : ℕ) (events : List ℕ) → fold with_event (no_event n) events ≡ set_numbered n events
 fold_none n events =
     fold_with (no_event n) events
     ∙ ap (λ m. those m (λ k. list_any (λ f. eqb k f) events || has (no_event n) k)) (length-those n (λ _. false))
@@ -85,7 +85,7 @@ pub listed_is : (names : List (List ℕ)) (text : List ℕ) → more_from names 
 unfolding listed_in gathered
 listed_is names text = more_is names 0 (no_event (length names)) (pieces_of 44 text) ∙ by_events (each (number_of names) (pieces_of 44 text))
   where
-    by_events : (o : Option (List ℕ)) → option_and_then (gathered 0 (no_event (length names))) o ≡ option_and_then (λ events. cond (ascends_from 0 events) (Some (set_of (length names) events)) None) o
+    by_events : (o : Option (List ℕ)) → option_and_then (gathered 0 (no_event (length names))) o ≡ option_and_then (λ events. cond (ascends_from 0 events) (Some (set_numbered (length names) events)) None) o
     by_events None = refl
     by_events (Some events) = ap (λ s. cond (ascends_from 0 events) (Some s) None) (fold_none (length names) events)
 
@@ -157,7 +157,7 @@ passing_events n low (e ∷ events) ascending below =
     ∙ passing_events n (e + 1) events both.1 (All-tail (IsBelow n) e events below))
 
 -- the numbers of the set of ascending atoms are those
-numbers_set_of : (n : ℕ) (events : List ℕ) → ascends_from 0 events ≡ true → All (IsBelow n) events → numbers (set_of n events) ≡ events
+numbers_set_of : (n : ℕ) (events : List ℕ) → ascends_from 0 events ≡ true → All (IsBelow n) events → numbers (set_numbered n events) ≡ events
 numbers_set_of n events ascending below =
     numbers-those n (λ k. list_any (λ e. eqb k e) events)
     ∙ passing-ext 0 n (λ k. list_any (λ e. eqb k e) events) (λ k. list_any (λ e. eqb k e) events && leb 0 k) (λ k _ _.
@@ -242,7 +242,7 @@ list_told names text set e = elim (chosen (bytes_eq text (codes "-")) _ _ _ e) [
       )
   | inr listed ↦ option_and_then_some _ (each (number_of names) (pieces_of 44 text)) _ listed.1 (λ events are_events e1. elim (chosen (ascends_from 0 events) _ _ _ e1) [
     | inl ascending ↦
-        let same : set_of (length names) events ≡ set = same_Some _ _ ascending.1 in
+        let same : set_numbered (length names) events ≡ set = same_Some _ _ ascending.1 in
         let named = each_named names (pieces_of 44 text) events are_events in (
           ap length (sym same) ∙ length-those (length names) (λ k. list_any (λ f. eqb k f) events),
           sym (ap (λ s. names_text names (numbers s)) (sym same) ∙ ap (names_text names) (numbers_set_of (length names) events ascending.0 named.0) ∙ names_told names text events named.1),
@@ -264,13 +264,13 @@ list_read names are set room = by_numbers (numbers set) refl
         let first : is_name (name_of names e) ≡ true = are.names e [] (All-head (IsBelow (length names)) e events below) in
         let pieces : pieces_of 44 (name_of names e ++ comma_names names events) ≡ map (name_of names) (e ∷ events) =
         ap (pieces_of 44) (sym (joined_names names e events)) ∙ pieces_joined 44 (name_of names e) (map (name_of names) events) (each_lacks 44 names refl are (e ∷ events) below) in
-        let same : set_of (length names) (e ∷ events) ≡ set =
-        set_from_numbers (set_of (length names) (e ∷ events)) set (length-those (length names) (λ k. list_any (λ f. eqb k f) (e ∷ events)) ∙ sym room)
+        let same : set_numbered (length names) (e ∷ events) ≡ set =
+        set_from_numbers (set_numbered (length names) (e ∷ events)) set (length-those (length names) (λ k. list_any (λ f. eqb k f) (e ∷ events)) ∙ sym room)
         (numbers_set_of (length names) (e ∷ events) ascending below ∙ sym some) in
         ap (λ t. cond t (Some (no_event (length names))) (listed_in names (name_of names e ++ comma_names names events))) (no_dash (name_of names e) (comma_names names events) first)
-        ∙ ap (λ ps. option_and_then (λ found. cond (ascends_from 0 found) (Some (set_of (length names) found)) None) (each (number_of names) ps)) pieces
-        ∙ ap (option_and_then (λ found. cond (ascends_from 0 found) (Some (set_of (length names) found)) None)) (named_each names are.distinct (e ∷ events) below)
-        ∙ ap (λ t. cond t (Some (set_of (length names) (e ∷ events))) None) ascending
+        ∙ ap (λ ps. option_and_then (λ found. cond (ascends_from 0 found) (Some (set_numbered (length names) found)) None) (each (number_of names) ps)) pieces
+        ∙ ap (option_and_then (λ found. cond (ascends_from 0 found) (Some (set_numbered (length names) found)) None)) (named_each names are.distinct (e ∷ events) below)
+        ∙ ap (λ t. cond t (Some (set_numbered (length names) (e ∷ events))) None) ascending
         ∙ ap Some same
 
 comma_lacks : (names : List (List ℕ)) → AreNames names → (events : List ℕ) → All (IsBelow (length names)) events → lacks 32 (comma_names names events) ≡ true

@@ -12,30 +12,30 @@ use Rattle.dcr_graph.specs.declared.marking.SiteMark.{SiteMark}
 use Rattle.dcr_line.specs.Known.{AreNames}
 use Rattle.dcr_line.specs.Line.{list_text, mark_text, mark_words, spaced}
 use Rattle.dcr_line.specs.MarkLine.{MarksAreRead, list_from, list_in, mark_from, mark_in}
-use Rattle.dcr_line.specs.Words.{all_of, behind, first_by, words_of}
+use Rattle.dcr_line.specs.Words.{all_of, words_behind, first_by, words_of}
 use Rattle.dcr_line.proofs.CallLemmas.{chosen, is_word, read_all, spaced_words_of, words_of_spaced}
 use Rattle.dcr_line.proofs.ListLemmas.{list_lacks, list_read, list_told}
 use Rattle.dcr_line.proofs.NameLemmas.{first_front, first_read}
 use Rattle.dcr_line.proofs.PiecesLemmas.{lacks}
 
 -- the word at the front
-behind_front : (known : List ℕ) (words rest : List (List ℕ)) → behind known words ≡ Some rest → words ≡ known ∷ rest
-unfolding behind
+behind_front : (known : List ℕ) (words rest : List (List ℕ)) → words_behind known words ≡ Some rest → words ≡ known ∷ rest
+unfolding words_behind
 behind_front known [] rest e = absurd cc
 behind_front known (word ∷ words) rest e = elim (chosen (bytes_eq word known) _ _ _ e) [
   | inl same ↦ ap (λ w. w ∷ words) (is_word word known same.0) ∙ ap (λ ws. known ∷ ws) (same_Some _ _ same.1)
   | inr other ↦ absurd (let no = other.1 in cc)
 ]
 
-behind_read : (known : List ℕ) (rest : List (List ℕ)) → behind known (known ∷ rest) ≡ Some rest
-unfolding behind
+behind_read : (known : List ℕ) (rest : List (List ℕ)) → words_behind known (known ∷ rest) ≡ Some rest
+unfolding words_behind
 behind_read known rest = ap (λ t. cond t (Some rest) None) ((bytes_eq-Decides known known).1 refl)
 
 -- a list at the front, behind its word
 pub list_front : (known : List ℕ) (names words : List (List ℕ)) (set : Set) (rest : List (List ℕ)) → list_from known names words ≡ Some (set, rest)
     → (length set ≡ length names) × (words ≡ known ∷ list_text names set ∷ rest)
 unfolding list_from
-list_front known names words set rest e = option_and_then_some _ (behind known words) _ e (λ after is e1.
+list_front known names words set rest e = option_and_then_some _ (words_behind known words) _ e (λ after is e1.
     let first = first_front (list_in names) after set rest e1 in
     let list = list_told names first.word set first.tells in
     (list.0, behind_front known words after is ∙ ap (λ ws. known ∷ ws) (first.is ∙ ap (λ w. w ∷ rest) list.1)))

@@ -9,7 +9,7 @@ use Rattle.dcr_graph.specs.declared.marking.SiteMark.{SiteMark}
 use Rattle.dcr_line.specs.Known.{AreNames}
 use Rattle.dcr_line.specs.Line.{mark_text}
 use Rattle.dcr_line.specs.PiecesModel.{pieces_of}
-use Rattle.dcr_line.specs.Words.{◌>>=◌, words_of, Front, all_of, first_by, behind}
+use Rattle.dcr_line.specs.Words.{◌>>=◌, words_of, Front, all_of, first_by, words_behind}
 
 -- each of a list read, and none where one can't be
 abbrev pub each : {A B : Type 0} → (A → Option B) → List A → Option (List B)
@@ -22,14 +22,14 @@ ascends_from low [] = true
 ascends_from low (e ∷ events) = nat_le low e && ascends_from (e + 1) events
 
 -- the set of these atoms, of so many
-abbrev pub set_of : ℕ → List ℕ → Set
-set_of atoms events = those atoms (λ k. list_any (λ e. k == e) events)
+abbrev pub set_numbered : ℕ → List ℕ → Set
+set_numbered atoms events = those atoms (λ k. list_any (λ e. k == e) events)
 
 -- the set of the atoms whose names stand between commas, in ascending order
 unfoldable pub listed_in : List (List ℕ) → List ℕ → Option Set
 listed_in names text = do
   events ← each (number_of names) (pieces_of 44 text)
-  if ascends_from 0 events then Some (set_of (length names) events) else None
+  if ascends_from 0 events then Some (set_numbered (length names) events) else None
 
 -- the set that a list is; `-` is the empty one
 unfoldable pub list_in : List (List ℕ) → List ℕ → Option Set
@@ -38,7 +38,7 @@ list_in names text = if bytes_eq text (codes "-") then Some (no_event (length na
 -- a list behind its word
 unfoldable pub list_from : List ℕ → List (List ℕ) → List (List ℕ) → Front Set
 list_from known names words = do
-  rest ← behind known words
+  rest ← words_behind known words
   first_by (list_in names) rest
 
 -- the three lists of marks, each behind its word

@@ -36,6 +36,6 @@ abbrev pub name_from : List (List ℕ) → List (List ℕ) → Front ℕ
 name_from names words = first_by (number_of names) words
 
 -- the words behind this word
-unfoldable pub behind : List ℕ → List (List ℕ) → Option (List (List ℕ))
-behind known [] = None
-behind known (word ∷ rest) = if bytes_eq word known then Some rest else None
+unfoldable pub words_behind : List ℕ → List (List ℕ) → Option (List (List ℕ))
+words_behind known [] = None
+words_behind known (word ∷ rest) = if bytes_eq word known then Some rest else None

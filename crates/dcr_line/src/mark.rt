@@ -1,6 +1,6 @@
 ghost use Rattle.std.specs.Prelude.{◌≡◌, length, option_map, IfSome};
 ghost use Rattle.dcr_graph.specs.Projection.{FitsAtoms};
-ghost use Rattle.dcr_line.specs.Words.{first_by, behind};
+ghost use Rattle.dcr_line.specs.Words.{first_by, words_behind};
 ghost use Rattle.dcr_graph.specs.Names.{number_of};
 ghost use Rattle.dcr_line.specs.MarkLine.{from_low, listed_in, list_in, list_from, mark_from, mark_in};
 
@@ -58,9 +58,9 @@ pub(crate) fn take_list(known: &[u8], words: &mut Pieces<'_>, graph: &Graph) -> 
 }
 
 // Takes this word.
-#[tactic(auto, unfolding(crate::specs::Words::behind))]
+#[tactic(auto, unfolding(crate::specs::Words::words_behind))]
 fn take_word(known: &[u8], words: &mut Pieces<'_>) -> Option<()>
-    ensures { option_map (λ _. words.new) result ≡ behind known.now words.old }
+    ensures { option_map (λ _. words.new) result ≡ words_behind known.now words.old }
 {
     if words.next()? != known {
         return None;

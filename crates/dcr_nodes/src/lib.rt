@@ -9,7 +9,5 @@ mod opening;
 mod relations;
 mod tree;
 
-pub use laws::{
-    nodes_are_the_formats, shaped_files_have_their_kinds, what_is_read_is_written,
-};
+pub use laws::{nodes_are_the_formats, shaped_files_have_their_kinds, what_is_read_is_written};
 pub use nodes::{Nodes, read_nodes};

@@ -1,11 +1,16 @@
 use Rattle.dcr_app.proofs.ReplayLemmas.{answered_report, says_invalid, says_valid}
-use Rattle.dcr_app.proofs.RunLemmas.{done_throughout}
+use Rattle.dcr_app.proofs.RunLemmas.{answered_case, done_throughout}
 use Rattle.dcr_app.proofs.app.dcr.Goals as goal
 
 pub returns-in-Some-Run-clause-converse : goal.returns-in-Some-Run-clause-converse
 returns-in-Some-Run-clause-converse g c = λ _.
-    done_throughout (g.I.Source.left c.args.input.now) (g.I.Source.has_ended c.run.new.input) (g.O.Sink.taken c.args.output.now) (g.O.Sink.taken c.run.new.output)
+    done_throughout c.when_each_refusal_comes.ensures.cases (g.I.Source.left c.args.input.now) (g.I.Source.has_ended c.run.new.input) (g.O.Sink.taken c.args.output.now) (g.O.Sink.taken c.run.new.output)
     c.run.result.status c.run.result.closed c.run.ensures.answers
+
+pub returns-in-Some-Run-clause-done : goal.returns-in-Some-Run-clause-done
+returns-in-Some-Run-clause-done g c = λ _ reads writes.
+    answered_case c.when_each_refusal_comes.ensures.cases (g.I.Source.left c.args.input.now) (g.I.Source.has_ended c.run.new.input) (g.O.Sink.taken c.args.output.now) (g.O.Sink.taken c.run.new.output)
+    c.run.result.status c.run.result.closed (λ is. reads (c.run.ensures.read_counted is)) (λ is. writes (c.run.ensures.write_counted is)) c.run.ensures.answers
 
 pub returns-in-Some-Replay-clause-valid : goal.returns-in-Some-Replay-clause-valid
 returns-in-Some-Replay-clause-valid g c = λ _ done.

@@ -27,7 +27,7 @@ returns-in-Ok-clause-answers g c = λ bytes spelled.
     let legal = legal_by G H C M closed.history.entries c.requires.flat.related c.in-Ok.ensures.legal in
     let had = g.O.Sink.taken c.args.output.now in let took = g.O.Sink.taken c.report.new.output in
     subst (λ told. AnswersCase (Some bytes) ⊤ had took c.report.result.status told) (sym c.report.ensures.closed)
-    (headline bytes (case_of case) closed c.report.result.status had took spelled run legal c.in-Ok.ensures.no_fault c.report.ensures.wrote)
+    (headline c.when_each_refusal_comes.ensures.cases bytes (case_of case) closed c.report.result.status had took spelled run legal c.in-Ok.ensures.no_fault c.report.ensures.wrote)
 
 pub returns-in-Ok-clause-report : goal.returns-in-Ok-clause-report
 returns-in-Ok-clause-report g c = λ done.

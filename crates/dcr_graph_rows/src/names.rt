@@ -1,0 +1,43 @@
+// Worked rows of the index of names: texts that are one, that share a hash, and that are none.
+use dcr_graph::NameIndex;
+use std::test::Fail;
+
+// Three texts of 48 bytes whose hashes are one, and four others.
+const TEXTS: [&str; 8] = [
+    "hxq6bmGRTRZv8cQJVri9Sp_LA.L5iow1xZ3QVTGSX6m4nuAe",
+    "hxq6bmGRTRZv8cQJVri9Sp_LA0PpSXztxZ3QVTGSX6m4nuAe",
+    "hxq6bmGRTRZv8cQJVri9Sp_LA3A3VTu-xZ3QVTGSX6m4nuAe",
+    "pm",
+    "gm",
+    "pm",
+    "",
+    "p",
+];
+
+#[test]
+fn a_text_has_the_number_of_the_first_that_is_it(rt: HostRuntime) -> Result<(), Fail> {
+    let alloc = rt.alloc();
+    let mut texts = Vec::new(alloc);
+    for text in TEXTS {
+        texts.push(text.as_bytes())?;
+    }
+    let index = NameIndex::new(alloc, texts)?;
+    assert_eq!(rt; index.len(), 8);
+    for (text, number) in [
+        (TEXTS[0], Some(0)),
+        (TEXTS[1], Some(1)),
+        (TEXTS[2], Some(2)),
+        ("pm", Some(3)),
+        ("gm", Some(4)),
+        ("", Some(6)),
+        ("p", Some(7)),
+        ("g", None),
+        ("pmm", None),
+    ] {
+        assert_eq!(rt; index.find(text.as_bytes()), number, "{text}");
+    }
+    let none = NameIndex::new(alloc, Vec::new(alloc))?;
+    assert_eq!(rt; none.len(), 0);
+    assert!(rt; none.find(b"pm").is_none());
+    Ok(())
+}

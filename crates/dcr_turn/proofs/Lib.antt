@@ -1,0 +1,7 @@
+mod Covering
+mod Counting
+mod Keeping
+mod Visiting
+mod Passing
+mod GivingOut
+mod Covered

@@ -1,0 +1,12 @@
+-- What lies under the lock beside the kept value, and what its fields stand for.
+use Rattle.std.specs.Prelude.{◌≡◌, ℕ}
+use Rattle.dcr_turn.specs.Records.{sites_in, all_know}
+use Rattle.dcr_turn.specs.declared.desk.Desk.TheInside.{Inside}
+use Rattle.dcr_turn.specs.DeskValue.{DeskValue}
+
+abbrev pub desk_of : {N : Type 0} → Inside N → DeskValue
+desk_of d = record { entries = d.journal.entries; enlisted = sites_in d.records }
+
+pub record IsDesk {N : Type 0} (most : ℕ) (d : Inside N) : Type 0 where
+  pub records : d.records ≡ all_know d.journal.entries (sites_in d.records)
+  pub capacity : d.journal.capacity ≡ most

@@ -1,0 +1,15 @@
+pub mod Covers
+pub mod Laws
+pub mod TurnId
+pub mod FrontValue
+pub mod PassValue
+pub mod GuardValue
+pub mod Pushing
+pub mod Records
+pub mod Rule
+pub mod Steps
+pub mod BlankModel
+pub mod FrontModel
+pub mod PassModel
+pub mod DeskValue
+pub mod DeskModel

@@ -1,0 +1,162 @@
+ghost use Rattle.std.specs.Prelude.{◌≡◌, ◌+◌, ◌-◌, ◌<◌, [], ◌∷◌, ◌++◌, length, slice_get};
+ghost use Rattle.std.specs.List.{All, Contains};
+ghost use Rattle.dcr_journal.specs.declared.call.Entry.{Entry};
+ghost use Rattle.dcr_turn.specs.FrontValue.{HasMissedNone};
+ghost use Rattle.dcr_turn.specs.PassValue.{HasMadeAll};
+ghost use Rattle.dcr_turn.specs.Pushing.{AllHear, entry_of, without_first};
+ghost use Rattle.dcr_turn.specs.Records.{all_know};
+
+use crate::order::Order;
+use crate::records::Records;
+use crate::{Front, Pass, TurnName};
+use dcr_journal::{Call, Entry, Journal, Outcome};
+use dcr_set::SiteId;
+use std::marker::{Brand, Model};
+
+/// The journal with its record, and the records of those sites whose fronts lie beside it. Contracts see its list
+/// and the numbers of these sites, the last one that came first.
+#[derive(Drop)]
+pub(crate) struct Desk<N: TurnName> {
+    journal: Journal,
+    records: Records<N>,
+}
+
+impl<N: TurnName> Model for Desk<N> {
+    ghost use Rattle.dcr_turn.specs.DeskModel.{desk_of, IsDesk};
+    ghost use Rattle.dcr_turn.specs.DeskValue.{DeskValue};
+
+    ghost Value = { DeskValue };
+
+    ghost view = { desk_of };
+
+    ghost invariant = { IsDesk N.capacity };
+}
+
+impl<N: TurnName> Desk<N> {
+    /// Of an empty journal and its record.
+    pub(crate) fn new(journal: Journal, records: Records<N>) -> Desk<N>
+        requires entries { journal.entries ≡ [] }
+        requires capacity { journal.capacity ≡ N.capacity }
+        requires records { records ≡ all_know [] [] }
+        ensures entries { result.entries ≡ [] }
+        ensures enlisted { result.enlisted ≡ [] }
+    {
+        Desk { journal, records }
+    }
+
+    /// The pass has seen the whole list then.
+    pub(crate) fn meet(&mut self, order: &Order<N>, pass: &mut Pass<N>)
+        ensures same { self.new ≡ self.old }
+        ensures session { pass.new.session ≡ pass.old.session }
+        ensures front { pass.new.front ≡ self.old.entries }
+        ensures made { pass.new.made ≡ pass.old.made }
+        ensures seen { HasMadeAll pass.old self.old.entries }
+    {
+        self.records.join(order, Records::out_of(&mut pass.badge));
+        self.records.hear(order);
+        pass.badge = self.records.cut(order).into_badge();
+        pass.seen = self.journal.len();
+    }
+
+    /// The front lies here then.
+    pub(crate) fn enlist(&mut self, order: &Order<N>, front: Front<N>)
+        ensures entries { self.new.entries ≡ self.old.entries }
+        ensures enlisted { self.new.enlisted ≡ front.site ∷ self.old.enlisted }
+        ensures seen { HasMissedNone N.turn front self.old.entries }
+        ensures apart { ¬ Contains self.old.enlisted front.site }
+    {
+        self.records.join(order, front.into_records());
+        self.records.hear(order);
+    }
+
+    /// All these fronts lie here then.
+    pub(crate) fn enlist_all(&mut self, order: &Order<N>, mut fronts: Vec<Front<N>>)
+        ensures entries { self.new.entries ≡ self.old.entries }
+        ensures seen { All (λ front. HasMissedNone N.turn front self.old.entries) fronts.items }
+    {
+        while let Some(front) = fronts.pop() {
+            self.enlist(order, front);
+        }
+    }
+
+    /// Each of these passes is met.
+    pub(crate) fn meet_all(&mut self, order: &Order<N>, mut passes: Vec<Pass<N>>)
+        ensures same { self.new ≡ self.old }
+        ensures seen { All (λ pass. HasMadeAll pass self.old.entries) passes.items }
+    {
+        while let Some(mut pass) = passes.pop() {
+            self.meet(order, &mut pass);
+        }
+    }
+
+    /// Gives the front of a site that lies here. It has seen the whole list.
+    pub(crate) fn dismiss(&mut self, order: &Order<N>, site: SiteId) -> Front<N>
+        requires { Contains self.old.enlisted site }
+        ensures entries { self.new.entries ≡ self.old.entries }
+        ensures enlisted { self.new.enlisted ≡ without_first site self.old.enlisted }
+        ensures site { result.site ≡ site }
+        ensures front { result.front ≡ self.old.entries }
+    {
+        let records = self.records.take_out::<Brand>(order, site);
+        Front::new(site, self.journal.len(), records)
+    }
+
+    /// Pushes the entry of a pass that has seen the whole list.
+    pub(crate) fn push(
+        &mut self,
+        order: &Order<N>,
+        pass: &mut Pass<N>,
+        call: Call,
+        outcome: Outcome,
+    )
+        requires met { pass.old.front ≡ self.old.entries }
+        requires room { length self.old.entries < N.capacity }
+        requires hear { AllHear N.turn.alphabets self.old.enlisted call outcome }
+        ensures entries { self.new.entries ≡ self.old.entries ++ entry_of pass.old call outcome ∷ [] }
+        ensures enlisted { self.new.enlisted ≡ self.old.enlisted }
+        ensures session { pass.new.session ≡ pass.old.session }
+        ensures front { pass.new.front ≡ self.new.entries }
+        ensures made { pass.new.made ≡ pass.old.made + 1 }
+    {
+        let entry = Entry {
+            session: pass.session,
+            seq: pass.made,
+            call,
+            outcome,
+        };
+        self.records.join(order, Records::out_of(&mut pass.badge));
+        self.records.publish(order, self.journal.len(), &entry);
+        pass.badge = self.records.cut(order).into_badge();
+        self.journal.push(entry);
+        pass.seen = self.journal.len();
+        pass.made += 1;
+    }
+
+    /// For how many more entries there is room.
+    pub(crate) fn spare(&self) -> u32
+        ensures { result + length self.now.entries ≡ N.capacity }
+    {
+        self.journal.spare()
+    }
+
+    /// The last entry. None exactly where there is none.
+    pub(crate) fn last(&self) -> Option<Entry>
+        ensures { result ≡ slice_get self.now.entries (length self.now.entries - 1) }
+    {
+        self.journal.last()
+    }
+
+    /// The journal, which has entries of the turn's sessions alone.
+    pub(crate) fn into_journal(self, order: &Order<N>) -> Journal
+        ensures entries { result.entries ≡ self.entries }
+        ensures capacity { result.capacity ≡ N.capacity }
+        ensures below { All (λ (entry : Entry). entry.session < N.turn.sessions) self.entries }
+    {
+        let Desk {
+            journal,
+            mut records,
+        } = self;
+        records.hear(order);
+        journal
+    }
+}

@@ -1,0 +1,140 @@
+ghost use Rattle.std.specs.Prelude.{◌≡◌, ◌+◌, ◌-◌, ◌<◌, [], ◌∷◌, ◌++◌, length, slice_get};
+ghost use Rattle.std.specs.Borrow.{Lends, sem};
+ghost use Rattle.std.specs.List.{Contains};
+ghost use Rattle.dcr_turn.specs.FrontValue.{HasMissedNone};
+ghost use Rattle.dcr_turn.specs.GuardValue.{with_enlisted, with_entries, with_kept};
+ghost use Rattle.dcr_turn.specs.PassValue.{HasMadeAll};
+ghost use Rattle.dcr_turn.specs.Pushing.{AllHear, EndsWithoutFault, entry_of, without_first};
+ghost use mir.Syntax.{named};
+
+use crate::desk::Desk;
+use crate::order::Order;
+use crate::turn::Locked;
+use crate::{Front, Keeps, Pass, TurnName};
+use dcr_journal::{Call, Entry, Outcome};
+use dcr_lock::Grip;
+use dcr_set::SiteId;
+use std::marker::Model;
+
+/// The journal's lock, held. It is not dropped: `unlock` spends it. Contracts see the journal's list, the numbers of
+/// the sites whose fronts are enlisted, the last one first, and the kept value.
+pub struct TurnGuard<'a, K: Keeps, N: TurnName> {
+    grip: Grip<'a, Locked<K, N>>,
+    order: &'a Order<N>,
+    desk: Desk<N>,
+    kept: K,
+}
+
+impl<'a, K: Keeps, N: TurnName> Model for TurnGuard<'a, K, N> {
+    ghost use Rattle.dcr_turn.specs.GuardValue.{GuardValue};
+
+    ghost Value = { GuardValue K };
+
+    ghost view = { λ guard. record { entries = guard.desk.entries; enlisted = guard.desk.enlisted; kept = guard.kept } };
+}
+
+impl<'a, K: Keeps, N: TurnName> TurnGuard<'a, K, N> {
+    ghost use Rattle.dcr_turn.specs.contracts.guard.TurnGuard.{the_row};
+
+    /// Of what is held at the one place of the turn's row.
+    pub(crate) fn new(
+        grip: Grip<'a, Locked<K, N>>,
+        order: &'a Order<N>,
+        locked: Locked<K, N>,
+    ) -> TurnGuard<'a, K, N>
+        ensures entries { result.entries ≡ locked.desk.entries }
+        ensures enlisted { result.enlisted ≡ locked.desk.enlisted }
+        ensures kept { result.kept ≡ locked.kept }
+    {
+        let Locked { desk, kept } = locked;
+        TurnGuard {
+            grip,
+            order,
+            desk,
+            kept,
+        }
+    }
+
+    /// The pass has seen the journal's list then, which begins with what it had seen. The session's entries there are
+    /// those that the pass made.
+    pub fn meet(&mut self, pass: &mut Pass<N>)
+        ensures same { self.new ≡ self.old }
+        ensures session { pass.new.session ≡ pass.old.session }
+        ensures front { pass.new.front ≡ self.old.entries }
+        ensures made { pass.new.made ≡ pass.old.made }
+        ensures seen { HasMadeAll pass.old self.old.entries }
+    {
+        self.desk.meet(self.order, pass);
+    }
+
+    /// The front lies beside the journal then. It begins the journal's list, and no execution after it was of its
+    /// site's alphabet. No front of that site lay there.
+    pub fn enlist(&mut self, front: Front<N>)
+        ensures enlisted { self.new ≡ with_enlisted self.old (front.site ∷ self.old.enlisted) }
+        ensures seen { HasMissedNone N.turn front self.old.entries }
+        ensures apart { ¬ Contains self.old.enlisted front.site }
+    {
+        self.desk.enlist(self.order, front);
+    }
+
+    /// Gives back the front of an enlisted site. It has seen the journal's list.
+    pub fn dismiss(&mut self, site: SiteId) -> Front<N>
+        requires { Contains self.old.enlisted site }
+        ensures enlisted { self.new ≡ with_enlisted self.old (without_first site self.old.enlisted) }
+        ensures site { result.site ≡ site }
+        ensures front { result.front ≡ self.old.entries }
+    {
+        self.desk.dismiss(self.order, site)
+    }
+
+    /// Pushes the one entry of a call: of the pass's session, numbered by the calls that it made. The pass was met,
+    /// there is room, no fault ends the list, and where an execution was done all its participants are enlisted.
+    pub fn push(&mut self, pass: &mut Pass<N>, call: Call, outcome: Outcome)
+        requires met { pass.old.front ≡ self.old.entries }
+        requires room { length self.old.entries < N.capacity }
+        requires unfaulted { EndsWithoutFault self.old.entries }
+        requires hear { AllHear N.turn.alphabets self.old.enlisted call outcome }
+        ensures entries { self.new ≡ with_entries self.old (self.old.entries ++ entry_of pass.old call outcome ∷ []) }
+        ensures session { pass.new.session ≡ pass.old.session }
+        ensures front { pass.new.front ≡ self.new.entries }
+        ensures made { pass.new.made ≡ pass.old.made + 1 }
+    {
+        self.desk.push(self.order, pass, call, outcome);
+    }
+
+    /// For how many more entries the journal has room.
+    pub fn spare(&self) -> u32
+        ensures { result + length self.now.entries ≡ N.capacity }
+    {
+        self.desk.spare()
+    }
+
+    /// The last entry of the journal. None exactly where there is none.
+    pub fn last(&self) -> Option<Entry>
+        ensures { result ≡ slice_get self.now.entries (length self.now.entries - 1) }
+    {
+        self.desk.last()
+    }
+
+    /// Lends the kept value, which may be changed at will.
+    pub fn kept(&mut self) -> &mut K
+        ensures* lends { sem 𝓛 (Lends (the_row (record { mir = named 1; lft = [] }) K.row N.row N.TurnName K.Keeps) K.row self.entry result (with_kept self.old)) }
+        ensures value { result.now ≡ self.old.kept }
+    {
+        &mut self.kept
+    }
+
+    /// Gives the lock back. No front is enlisted, and the kept value stands for the journal's list.
+    pub fn unlock(self)
+        requires enlisted { self.enlisted ≡ [] }
+        requires kept { K.stands self.entries self.kept }
+    {
+        let TurnGuard {
+            grip,
+            order: _,
+            desk,
+            kept,
+        } = self;
+        grip.join(Locked { desk, kept }).unlock();
+    }
+}

@@ -1,0 +1,143 @@
+//! The word of the journal's length, its rule, and the kinds of step on it.
+ghost use Rattle.std.specs.Prelude.{◌≡◌};
+
+use crate::TurnName;
+use crate::record::Record;
+use atomic_table::{Join, Play, Seat, Split, Table, TableRule};
+use dcr_journal::Entry;
+use dcr_proj::Network;
+use std::alloc::Global;
+use std::collections::LinkedList;
+use std::marker::PhantomData;
+use std::snapshot::Snapshot;
+
+/// What a seat knows: the records that it carries.
+pub type View = LinkedList<Record>;
+
+/// What the rule reads: the alphabets of the sites, and the number of sessions.
+pub type Key = (Snapshot<Network>, u32);
+
+/// The rule. No value of it is made.
+pub struct OneHistory;
+
+impl TableRule<Entry, View, Key> for OneHistory {
+    ghost use Rattle.std.specs.Prelude.{length};
+    ghost use Rattle.dcr_turn.specs.Records.{everyone};
+    ghost use Rattle.dcr_turn.specs.Rule.{Keeps};
+
+    ghost holds = { λ key. Keeps key.0.value key.1 };
+
+    ghost first = { λ key. everyone (length key.0.value) key.1 };
+}
+
+/// One word, the length of the journal's list, and no slot.
+pub type LengthTable = Table<Entry, View, Key, OneHistory, Global>;
+
+/// What steps on it.
+pub type RecordSeat = Seat<Entry, View>;
+
+/// Publish: an entry is pushed.
+pub struct Publish;
+
+impl Play<Entry, View> for Publish {
+    ghost use Rattle.dcr_turn.specs.Steps.{Publishes};
+
+    ghost then = { Publishes };
+}
+
+/// Load: records hear of the journal's list, which stands first.
+pub struct Hear<N> {
+    of: PhantomData<N>,
+}
+
+impl<N: TurnName> Play<Entry, View> for Hear<N> {
+    ghost use Rattle.dcr_turn.specs.Steps.{Hears};
+
+    ghost then = { Hears N.turn.alphabets N.turn.sessions };
+}
+
+/// Load: two records are held against each other, and the first learns from the second.
+pub struct Compare<N> {
+    of: PhantomData<N>,
+}
+
+impl<N: TurnName> Play<Entry, View> for Compare<N> {
+    ghost use Rattle.dcr_turn.specs.Steps.{Compares};
+
+    ghost then = { Compares N.turn.alphabets N.turn.sessions };
+}
+
+/// Join: the other seat's records come behind the first one, and none is left to it.
+pub struct Behind;
+
+impl Join<View> for Behind {
+    ghost use Rattle.std.specs.Prelude.{[]};
+    ghost use Rattle.dcr_turn.specs.Steps.{joined};
+
+    ghost both = { joined };
+
+    ghost spent = { [] };
+}
+
+/// Split: the second record goes.
+pub struct Second;
+
+impl Split<View> for Second {
+    ghost use Rattle.dcr_turn.specs.Steps.{kept, cut};
+
+    ghost left = { kept };
+
+    ghost right = { cut };
+}
+
+/// Names a holder.
+pub trait Which {
+    ghost use Rattle.dcr_turn.specs.declared.record.Holder.{Holder};
+
+    ghost holder: { Holder };
+}
+
+impl Which for std::marker::Brand {
+    ghost use Rattle.dcr_turn.specs.declared.record.Holder.TheVariants.{Journal};
+
+    ghost holder = { Journal };
+}
+
+/// Split: the named holder's record goes.
+pub struct Named<B> {
+    of: PhantomData<B>,
+}
+
+impl<B: Which> Split<View> for Named<B> {
+    ghost use Rattle.dcr_turn.specs.Records.{without, only};
+
+    ghost left = { without B.holder };
+
+    ghost right = { only B.holder };
+}
+
+/// The word under the name of its turn. Threads share it by reference.
+#[derive(Drop)]
+pub(crate) struct Order<N: TurnName> {
+    pub(crate) table: LengthTable,
+    of: PhantomData<N>,
+    pub ghost words: { table.shared.table_id.words ≡ 1 },
+    pub ghost mark: { table.shared.table_id ≡ N.turn.mark },
+    pub ghost alphabets: { table.shared.key.0.value ≡ N.turn.alphabets },
+    pub ghost sessions: { table.shared.key.1 ≡ N.turn.sessions },
+}
+
+impl<N: TurnName> Order<N> {
+    /// Of a table that the name names.
+    pub(crate) fn new(table: LengthTable) -> Order<N>
+        requires words { table.shared.table_id.words ≡ 1 }
+        requires mark { table.shared.table_id ≡ N.turn.mark }
+        requires alphabets { table.shared.key.0.value ≡ N.turn.alphabets }
+        requires sessions { table.shared.key.1 ≡ N.turn.sessions }
+    {
+        Order {
+            table,
+            of: PhantomData,
+        }
+    }
+}

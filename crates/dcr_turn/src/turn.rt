@@ -1,0 +1,145 @@
+ghost use Rattle.std.specs.Prelude.{◌≡◌, ◌≢◌, ◌⊎◌, ◌<◌, ◌≤◌, [], length, IfOk, IfErr};
+ghost use Rattle.std.specs.List.{All};
+ghost use Rattle.dcr_journal.specs.declared.call.Entry.{Entry};
+ghost use Rattle.dcr_turn.specs.FrontValue.{HasMissedNone, new_fronts};
+ghost use Rattle.dcr_turn.specs.PassValue.{HasMadeAll, new_passes};
+
+use crate::desk::Desk;
+use crate::opening::{Parts, opened};
+use crate::order::Order;
+use crate::{Front, Keeps, Pass, TurnBlank, TurnGuard, TurnName};
+use dcr_journal::Journal;
+use dcr_lock::{Placed, Row, RowRefused};
+use std::alloc::Global;
+use std::sync::Wait;
+
+/// What lies under the journal's lock.
+#[derive(Drop)]
+pub(crate) struct Locked<K, N: TurnName> {
+    pub(crate) desk: Desk<N>,
+    pub(crate) kept: K,
+}
+
+impl<K: Keeps, N: TurnName> Placed for Locked<K, N> {
+    ghost use Rattle.std.specs.Prelude.{◌≡◌, []};
+
+    ghost belongs = { λ _ locked. (locked.desk.enlisted ≡ []) × K.stands locked.desk.entries locked.kept };
+}
+
+/// The journal and a kept value behind one lock: the one order of all calls. Threads share it by reference.
+#[derive(Drop)]
+pub struct Turn<K: Keeps, N: TurnName> {
+    row: Row<Locked<K, N>>,
+    order: Order<N>,
+    ghost one: { row ≡ 1 },
+}
+
+/// There was no memory for the turn. The kept value comes back.
+#[derive(Drop)]
+pub struct TurnRefused<K> {
+    pub kept: K,
+}
+
+impl<K: Keeps, N: TurnName> Turn<K, N> {
+    /// The turn of a blank, with an empty journal of this capacity, 200,000 at most, and a kept value that stands for
+    /// no entry. With it come the fronts of its sites and the passes of its sessions, in order; they have seen and
+    /// done nothing. It is refused for want of memory alone.
+    pub fn open(
+        alloc: Global,
+        blank: TurnBlank,
+        capacity: u32,
+        kept: K,
+    ) -> Result<(Turn<K, N>, Vec<Front<N>>, Vec<Pass<N>>), TurnRefused<K>>
+        requires turn { blank ≡ N.turn }
+        requires capacity { capacity ≡ N.capacity }
+        requires most { capacity ≤ 200000 }
+        requires kept { K.stands [] kept }
+        ensures fronts { IfOk result (λ opened. opened.1.items ≡ new_fronts (length N.turn.alphabets)) }
+        ensures passes { IfOk result (λ opened. opened.2.items ≡ new_passes N.turn.sessions) }
+        ensures refused { IfErr result (λ refused. refused.kept ≡ kept) }
+    {
+        let parts = opened(alloc, blank, capacity);
+        let Ok(parts) = parts else {
+            return Err(TurnRefused { kept });
+        };
+        let Parts {
+            order,
+            desk,
+            fronts,
+            passes,
+        } = parts;
+        let row = lay(alloc, Locked { desk, kept })?;
+        Ok((Turn { row, order }, fronts, passes))
+    }
+
+    /// Waits until the journal's lock is free, and holds it. No front is enlisted, and the kept value stands for the
+    /// journal's list. Takes no memory.
+    pub fn lock<R: Wait>(&self, rt: &R) -> TurnGuard<'_, K, N>
+        ensures enlisted { result.enlisted ≡ [] }
+        ensures kept { K.stands result.entries result.kept }
+    {
+        let (grip, locked) = self.row.lock(rt, 0).split();
+        TurnGuard::new(grip, &self.order, locked)
+    }
+
+    /// The first pass has seen the longer of both lists then, which both begin. The session's entries there are those
+    /// that its pass made, for both, and the sessions differ. It takes no lock and no memory.
+    pub fn learn(&self, to: &mut Pass<N>, from: &mut Pass<N>)
+        ensures from { from.new ≡ from.old }
+        ensures session { to.new.session ≡ to.old.session }
+        ensures made { to.new.made ≡ to.old.made }
+        ensures longer { (to.new.front ≡ to.old.front) ⊎ (to.new.front ≡ from.old.front) }
+        ensures to_seen { HasMadeAll to.old to.new.front }
+        ensures from_seen { HasMadeAll from.old to.new.front }
+        ensures apart { to.old.session ≢ from.old.session }
+    {
+        to.learn(&self.order, from);
+    }
+    /// Waits until the journal's lock is free, and ends the turn, whose fronts and passes are handed in. Each front
+    /// begins the journal's list, and no execution after a site's front was of its alphabet. A pass's entries there
+    /// are those that it made, and no other session has one. The kept value stands for the list. Takes no memory.
+    pub fn close<R: Wait>(self, rt: &R, fronts: Vec<Front<N>>, passes: Vec<Pass<N>>) -> (Journal, K)
+        ensures fronts { All (λ front. HasMissedNone N.turn front result.0.entries) fronts.items }
+        ensures passes { All (λ pass. HasMadeAll pass result.0.entries) passes.items }
+        ensures sessions { All (λ (entry : Entry). entry.session < N.turn.sessions) result.0.entries }
+        ensures capacity { result.0.capacity ≡ N.capacity }
+        ensures kept { K.stands result.0.entries result.1 }
+    {
+        let Turn { row, order } = self;
+        let mut end = row.close();
+        let Locked { mut desk, kept } = end.take(rt);
+        end.finish();
+        desk.enlist_all(&order, fronts);
+        desk.meet_all(&order, passes);
+        (desk.into_journal(&order), kept)
+    }
+}
+
+// A row of the one place.
+fn lay<K: Keeps, N: TurnName>(
+    alloc: Global,
+    locked: Locked<K, N>,
+) -> Result<Row<Locked<K, N>>, TurnRefused<K>>
+    requires enlisted { locked.desk.enlisted ≡ [] }
+    requires kept { K.stands locked.desk.entries locked.kept }
+    ensures one { IfOk result (λ row. row ≡ 1) }
+    ensures refused { IfErr result (λ refused. refused.kept ≡ locked.kept) }
+{
+    let room = Vec::with_capacity(alloc, 1);
+    let Ok(mut values) = room else {
+        let Locked { desk: _, kept } = locked;
+        return Err(TurnRefused { kept });
+    };
+    values.push_reserved(locked);
+    let opened = Row::open(alloc, values);
+    let refused = match opened {
+        Ok(row) => return Ok(row),
+        Err(refused) => refused,
+    };
+    let RowRefused { mut values } = refused;
+    let popped = values.pop();
+    let Some(locked) = popped else { unreachable!() };
+    values.destroy_empty();
+    let Locked { desk: _, kept } = locked;
+    Err(TurnRefused { kept })
+}

@@ -1,0 +1,124 @@
+"""The documents: their links hold, the commands in them print what the page says, and what they name is there."""
+
+import glob
+import os
+import re
+import shutil
+import tempfile
+
+from checks import EXAMPLES, TOP, NotTried, read, run, want
+
+# Commands that a reader calls and that take minutes, or that change what is not the repository's.
+NOT_RUN = re.compile(r"(rt |\.ci/run$|git |cd |ln -s|cp crates/dcr/out/dcr|bench/)")
+LINK = re.compile(r"!?\[[^\]]*\]\(([^)\s]+)\)")
+
+
+def pages():
+    """Each document, by its path in the repository."""
+    found = [*glob.glob(TOP + "/*.md"), *glob.glob(TOP + "/docs/*.md"), *glob.glob(TOP + "/examples/**/*.md", recursive=True)]
+    return {os.path.relpath(path, TOP): read(path).decode() for path in sorted(found)}
+
+
+def anchors(text):
+    """The anchors of a page's headings."""
+    heads = re.findall(r"^#+ (.*)$", text, re.M)
+    return {re.sub(r"[^\w\- ]", "", it.lower()).replace(" ", "-") for it in heads}
+
+
+def check_all_links_hold():
+    lost, every = [], pages()
+    for page, text in every.items():
+        for target in LINK.findall(text):
+            if re.match(r"[a-z]+:", target):
+                continue
+            path, _, anchor = target.partition("#")
+            there = os.path.normpath(os.path.join(os.path.dirname(page), path)) if path else page
+            if not os.path.exists(os.path.join(TOP, there)) or anchor and anchor not in anchors(every.get(there, "")):
+                lost.append("%s: %s" % (page, target))
+    want(not lost, "; ".join(lost))
+
+
+def check_files_that_are_named_are_there():
+    lost = []
+    for page, text in pages().items():
+        for name in re.findall(r"`((?:docs|bench|tools|examples|\.ci)/[\w./*-]*\w)[^`]*`", text):
+            if not glob.glob(os.path.join(TOP, name)):
+                lost.append("%s: %s" % (page, name))
+    want(not lost, "; ".join(lost))
+
+
+def check_edits_that_are_named_are_there():
+    edits = {os.path.basename(it)[:-5] for it in glob.glob(TOP + "/crates/*/must-fail/*.edit")} | {*os.listdir(TOP + "/crates")}
+    lost = []
+    for line in read("docs/PROMISES.md").decode().splitlines():
+        cells = line.split(" | ")
+        names = re.findall(r"`(\w+_\w+)`", cells[3]) if len(cells) > 4 else []
+        lost += [it for it in names if it not in edits and it != "read_all"]
+    want(not lost, "docs/PROMISES.md names edits that there are not: %s" % ", ".join(lost))
+
+
+# ---- commands
+
+
+def blocks(text, kind):
+    return re.findall(r"^```%s\n(.*?)^```$" % kind, text, re.M | re.S)
+
+
+def commands(text):
+    """Each command of a page's console blocks, and the lines that are to be printed."""
+    for block in blocks(text, "console"):
+        for part in re.split(r"^\$ ", block, flags=re.M)[1:]:
+            command, _, lines = part.partition("\n")
+            yield command, lines
+
+
+def is_printed(wanted, wrote):
+    """Whether the lines are those that were wanted, where a line of three dots stands for any number of lines."""
+    pattern = "".join("(?:.*\n)*?" if line == "...\n" else re.escape(line) for line in wanted.splitlines(True))
+    return re.fullmatch(pattern, wrote) is not None
+
+
+def check_commands_print_what_the_pages_say():
+    wrong, has_jq = [], shutil.which("jq")
+    for page, text in pages().items():
+        # (in a folder of its own, where the repository's files stand as links, so that what a command writes goes with it)
+        with tempfile.TemporaryDirectory() as room:
+            for name in os.listdir(TOP):
+                os.symlink(os.path.join(TOP, name), os.path.join(room, name))
+            # (without jq, neither its commands nor those that take what it made)
+            for command, lines in [it for it in commands(text) if has_jq or not re.search(r"\bjq\b|own\.head", it[0])]:
+                status, wrote, said = run(["sh", "-c", command], cwd=room)
+                shown = (wrote + said).decode()
+                if not is_printed(lines, shown) or (not lines and status):
+                    wrong.append("%s: `%s` has status %d and prints\n%s" % (page, command, status, shown))
+    want(not wrong, "\n".join(wrong))
+
+
+def check_commands_that_are_not_run_are_known():
+    lost = []
+    for page, text in pages().items():
+        lines = [line for block in blocks(text, "sh") for line in block.splitlines()]
+        lost += ["%s: %s" % (page, line) for line in lines if not NOT_RUN.match(line)]
+    want(not lost, "; ".join(lost))
+
+
+# ---- the column of FORMATS that finds the place
+
+
+def check_jq_finds_each_refusal():
+    if not shutil.which("jq"):
+        raise NotTried("jq is not on the path")
+    rows = [re.split(r"(?<!\\) \| ", line.strip("| ")) for line in read("docs/FORMATS.md").decode().splitlines() if line.startswith("| ")]
+    paths = {row[0].strip("`"): row[2 if row[0].startswith("`refused") else 3] for row in rows if len(row) == 4}
+    for name, line in re.findall(r"^\| `([^`]*\.json)` \| `([^`]*)` \|$", read("examples/refused/README.md").decode(), re.M):
+        words = line.split()
+        if words[2] == "not-json":
+            continue
+        key = words[3] if words[2] in ("shape", "limit") else next(it for it in paths if it.startswith(" ".join(words[:3]) + " "))
+        names = key.split()[3:] if key.startswith("refused") else ["", "I"]
+        path = paths[key].strip("`").replace("\\|", "|")
+        numbers = words[3:] if key.startswith("refused") else ["", words[4]]
+        for letter, number in zip(names, numbers):
+            path = path.replace("[%s]" % letter, "[%s]" % number) if letter in "IJK" else path.replace('"%s"' % letter, '"%s"' % number)
+        status, wrote, said = run(["jq", "-c", path, os.path.join(EXAMPLES, "refused", name)])
+        want(status == 0 and wrote.strip() not in (b"", b"null"), "%s: jq '%s': %s%s" % (line, path, wrote, said))

@@ -1,0 +1,259 @@
+"""The program as a process: what it is asked, what it reads and writes, and the status that it ends with."""
+
+import json
+import os
+import pty
+import re
+import select
+import subprocess
+import tempfile
+import time
+
+from checks import EXAMPLES, TOP, NotTried, examples, read, run, want
+
+PROGRAM = os.path.join(TOP, "crates/dcr/out/dcr")
+DONE, USAGE, REFUSED, READ_FAULT, WRITE_FAULT, NO_MEMORY, INVALID = 0, 2, 3, 4, 5, 6, 8
+
+
+def prepare():
+    """Builds the program where `./dcr` finds that it isn't built."""
+    subprocess.run([os.path.join(TOP, "dcr"), "run"], input=read("examples/first.json"), stdout=subprocess.DEVNULL)
+
+
+def dcr(*words, given=b"", **how):
+    return run([PROGRAM, *words], given, **how)
+
+
+def in_shell(text, *words, given=b"", **how):
+    """The program as the last command of a line of the shell, which calls it "$@"."""
+    return run(["sh", "-c", text, "sh", PROGRAM, *words], given, **how)
+
+
+def wrong_report():
+    return read("examples/medication.report").replace(b"exec nurse gm condition s", b"exec nurse gm done")
+
+
+# A case with a report of some MB.
+def large_case(calls=1_000, atoms=200):
+    events = [{"name": "event-with-a-name-%d" % k} for k in range(atoms)]
+    owned = [event["name"] for event in events]
+    file = {"graph": {"events": events}, "cover": [{"site": "s", "events": owned}], "sessions": [["look s"] * calls]}
+    return json.dumps(file).encode()
+
+
+# ---- what is asked, and the statuses
+
+
+def check_each_example_makes_its_report():
+    for name in examples():
+        told = dcr("run", given=read("examples/%s.json" % name))
+        want(told == (DONE, read("examples/%s.report" % name), b""), "%s gives status %d and another report" % (name, told[0]))
+
+
+def check_each_report_is_valid():
+    for name in examples(".report"):
+        report = read("examples/%s.report" % name)
+        count = report.rsplit(b"\nend ", 1)[1]
+        want(dcr("replay", given=report) == (DONE, b"valid " + count, b""), name)
+
+
+def check_words_that_are_no_command_are_usage():
+    lines = [[], ["RUN"], ["run "], [""], ["-h"], ["--help"], ["ru"], ["run", "run"], ["run", "replay"], ["replay", "run"], ["run", ""], ["x", "run"], ["run", "x", "y"]]
+    lines += [["replay", "replay"], [b"\xff"], [b"run\xff"], [b"\xffrun"], ["run", b"\xff"], [b"\xff", "run"], ["replay", b"\xc3"]]
+    for words in lines:
+        told = dcr(*words, given=read("examples/first.json"))
+        want(told == (USAGE, b"usage\n", b""), "%s gives %s" % (words, told))
+
+
+def check_nothing_is_read_for_wrong_words():
+    with open(os.path.join(EXAMPLES, "first.json"), "rb") as file:
+        for words in [[], ["run", "x"]]:
+            want(dcr(*words, stdin=file)[0] == USAGE and os.lseek(file.fileno(), 0, os.SEEK_CUR) == 0, "%s: the input was read" % words)
+
+
+def check_each_refusal_has_its_line():
+    table = re.findall(rb"^\| `([^`]*\.json)` \| `([^`]*)` \|$", read("examples/refused/README.md"), re.M)
+    files = sorted(it for it in os.listdir(os.path.join(EXAMPLES, "refused")) if it.endswith(".json"))
+    want(sorted(name.decode() for name, _ in table) == files, "the table and the files of examples/refused differ")
+    for name, line in table:
+        told = dcr("run", given=read("examples/refused/" + name.decode()))
+        want(told == (REFUSED, line + b"\n", b""), "%s gives %s" % (name.decode(), told))
+
+
+def check_what_is_too_long_is_refused():
+    told = dcr("run", given=b" " * 16_777_217)
+    want(told == (REFUSED, b"refused 1 too-long\n", b""), str(told))
+    told = dcr("run", given=b" " * 16_777_216)
+    want(told == (REFUSED, b"refused 2 not-json\n", b""), str(told))
+
+
+def check_no_bytes_are_refused_or_invalid():
+    want(dcr("run") == (REFUSED, b"refused 2 not-json\n", b""), "run")
+    want(dcr("replay") == (INVALID, b"invalid 1 head\n", b""), "replay")
+
+
+def check_a_wrong_report_is_invalid():
+    told = dcr("replay", given=wrong_report())
+    want(told == (INVALID, b"invalid 6 outcome\n", b""), str(told))
+    told = dcr("replay", given=read("examples/first.json"))
+    want(told == (INVALID, b"invalid 1 head\n", b""), str(told))
+
+
+# ---- inputs
+
+
+def check_a_folder_as_input_is_a_read_fault():
+    for word in ["run", "replay"]:
+        told = in_shell('"$@" <"%s"' % EXAMPLES, word, stdin=subprocess.DEVNULL)
+        want(told[:2] == (READ_FAULT, b""), "%s gives %s" % (word, told))
+
+
+def check_an_input_that_can_only_be_written_is_a_read_fault():
+    with tempfile.NamedTemporaryFile() as file:
+        for word in ["run", "replay"]:
+            told = in_shell('"$@" 0>"%s"' % file.name, word, stdin=subprocess.DEVNULL)
+            want(told[:2] == (READ_FAULT, b""), "%s gives %s" % (word, told))
+
+
+def check_a_read_that_would_block_is_a_read_fault():
+    for word in ["run", "replay"]:
+        ends = os.pipe()
+        os.set_blocking(ends[0], False)
+        told = dcr(word, stdin=ends[0], seconds=60)
+        os.close(ends[0])
+        os.close(ends[1])
+        want(told[:2] == (READ_FAULT, b""), "%s gives %s" % (word, told))
+
+
+def check_a_closed_input_is_no_case():
+    for word, lines in [("run", (READ_FAULT, b"")), ("replay", (READ_FAULT, b""))]:
+        told = in_shell('exec "$@" <&-', word, stdin=subprocess.DEVNULL)
+        want(told[:2] == lines, "%s gives %s" % (word, told))
+
+
+def check_an_input_that_comes_in_pieces():
+    ran = subprocess.Popen([PROGRAM, "run"], stdin=subprocess.PIPE, stdout=subprocess.PIPE)
+    text = read("examples/first.json")
+    for at in range(0, len(text), 50):
+        ran.stdin.write(text[at : at + 50])
+        ran.stdin.flush()
+        time.sleep(0.01)
+    want(ran.communicate(timeout=60)[0] == read("examples/first.report") and ran.returncode == DONE, "another report")
+
+
+def typed(keys, *words):
+    """What the program comes to at a terminal where these keys are pressed: its status and what it wrote."""
+    try:
+        ours, theirs = pty.openpty()
+    except OSError as error:
+        raise NotTried("no terminal can be made: %s" % error) from None
+    try:
+        ran = subprocess.Popen([PROGRAM, *words], stdin=theirs, stdout=subprocess.PIPE, stderr=subprocess.PIPE, start_new_session=True)
+        for key in keys:
+            os.write(ours, key)
+            time.sleep(0.05)
+            while select.select([ours], [], [], 0)[0]:
+                os.read(ours, 65536)
+        try:
+            wrote = ran.communicate(timeout=30)[0]
+        except subprocess.TimeoutExpired:
+            ran.kill()
+            wrote = ran.communicate()[0] + b" (it still waited, and was killed)"
+        return ran.returncode, wrote
+    finally:
+        os.close(ours)
+        os.close(theirs)
+
+
+END_OF_FILE = b"\x04"
+
+
+def check_a_case_that_is_typed():
+    told = typed([read("examples/first.json"), b"\n", END_OF_FILE], "run")
+    want(told == (DONE, read("examples/first.report")), str(told))
+
+
+def check_nothing_is_read_behind_the_end_of_what_is_typed():
+    told = typed([read("examples/first.json"), b"\n", END_OF_FILE, b"\n", END_OF_FILE], "run")
+    want(told == (DONE, read("examples/first.report")), str(told))
+    lines = read("examples/first.report").splitlines(True)
+    told = typed([*lines, END_OF_FILE, b"\n", END_OF_FILE], "replay")
+    want(told == (DONE, b"valid 4\n"), str(told))
+
+
+# ---- outputs
+
+
+def check_a_full_device_as_output_is_a_write_fault():
+    if not os.path.exists("/dev/full"):
+        raise NotTried("there is no /dev/full")
+    inputs = [(["run"], read("examples/first.json")), (["run"], large_case()), (["run"], b"{"), (["replay"], read("examples/first.report"))]
+    inputs += [(["replay"], wrong_report()), ([], b""), (["run", "x"], b""), ([b"\xff"], b"")]
+    for words, given in inputs:
+        with open("/dev/full", "wb") as full:
+            told = dcr(*words, given=given, stdout=full)
+        want(told[0] == WRITE_FAULT, "%s gives status %d" % (words, told[0]))
+
+
+def check_an_output_that_can_only_be_read_is_a_write_fault():
+    for words, given in [(["run"], read("examples/first.json")), (["replay"], read("examples/first.report")), ([], b"")]:
+        told = in_shell('exec "$@" 1</dev/null', *words, given=given)
+        want(told[0] == WRITE_FAULT, "%s gives status %d" % (words, told[0]))
+
+
+def check_a_closed_output_is_a_write_fault():
+    for words, given in [(["run"], read("examples/first.json")), (["replay"], read("examples/first.report")), ([], b"")]:
+        told = in_shell('exec "$@" >&-', *words, given=given)
+        want(told[0] == WRITE_FAULT, "%s gives status %d" % (words, told[0]))
+
+
+def check_a_reader_that_goes_away_is_a_write_fault():
+    ends = os.pipe()
+    os.close(ends[0])
+    told = dcr("run", given=read("examples/first.json"), stdout=ends[1])
+    os.close(ends[1])
+    want(told[0] == WRITE_FAULT, "status %d" % told[0])
+
+
+def check_a_file_that_may_not_grow_gets_a_front():
+    with tempfile.NamedTemporaryFile() as file:
+        told = in_shell("ulimit -f 100; trap '' XFSZ; exec \"$@\" >'%s'" % file.name, "run", given=large_case())
+        report = dcr("run", given=large_case())[1]
+        wrote = file.read()
+    want(told[0] == WRITE_FAULT and 0 < len(wrote) < len(report) and report.startswith(wrote), "status %d, %d bytes" % (told[0], len(wrote)))
+
+
+# ---- memory
+
+
+def with_memory(kib, *words, given=b""):
+    return in_shell('ulimit -v %d; exec "$@"' % kib, *words, given=given)
+
+
+def check_want_of_memory_is_told_by_its_status():
+    given, whole = large_case(50_000, 1), None
+    found = []
+    for kib in range(4_000, 100_000, 4_000):
+        status, wrote, _ = with_memory(kib, "run", given=given)
+        whole = whole or dcr("run", given=given)[1]
+        want(status in (NO_MEMORY, DONE) or not wrote, "%d KiB give status %d" % (kib, status))
+        want(whole.startswith(wrote) and (status == DONE) == (wrote == whole), "%d KiB give status %d and %d bytes" % (kib, status, len(wrote)))
+        found.append(status)
+        if status == DONE:
+            break
+    want(NO_MEMORY in found and found[-1] == DONE, "the statuses were %s" % found)
+
+
+def check_want_of_memory_for_the_words():
+    words, found = ["x" * 100_000] * 15, set()
+    for kib in range(4_000, 16_000, 100):
+        status, wrote, complained = with_memory(kib, *words)
+        if complained or status < 0 or status > 125:
+            # It was not started: the shell, the loader or the kernel wanted more.
+            want(not wrote, "%d KiB give status %d and %s" % (kib, status, wrote))
+            continue
+        want((status, wrote) in [(NO_MEMORY, b""), (USAGE, b"usage\n")], "%d KiB give status %d and %s" % (kib, status, wrote))
+        found.add(status)
+        if status == USAGE:
+            break
+    want(found == {NO_MEMORY, USAGE}, "the statuses were %s" % sorted(found))

@@ -1,0 +1,270 @@
+"""`./dcr` over a small checkout of four crates and a stand-in for `rt`, which is slow, fails, or is missing."""
+
+import contextlib
+import os
+import pty
+import shutil
+import signal
+import subprocess
+import tempfile
+import time
+
+from checks import TOP, NotTried, run, want
+
+# The stand-in proves nothing: it waits, tells what rt tells, and makes a program of the shell that tells its words.
+RT = """#!/bin/sh
+echo "$*" >>"$STAND_IN/calls"
+case $1 in
+all)
+    for crate in dcr_set dcr_base dcr_app dcr; do
+        sleep "${SLOW:-0}"
+        [ "${FAILS:-}" != "$crate" ] || { echo "$crate: not proved"; exit 1; }
+        echo "== $crate"
+    done
+    ;;
+run)
+    echo "rt: chose --jobs 4 for dcr_app" >&2
+    [ "${FAILS:-}" != link ] || exit 3
+    mkdir -p out
+    printf '#!/bin/sh\\n[ "$1" = run ] || exit 2\\n[ "${2:-}" != status ] || exit 8\\necho "%s $*"\\ncat\\n' "$(cat src/main.rt)" >out/dcr.linking
+    chmod +x out/dcr.linking
+    mv out/dcr.linking out/dcr
+    [ "${FAILS:-}" != report ] || echo "another line"
+    exec out/dcr run
+    ;;
+esac
+"""
+USAGE, NO_RT, FAILED, NOT_WRITABLE = 2, 69, 70, 73
+
+
+class Checkout:
+    """A checkout of four crates in a folder of its own, with the stand-in on the path."""
+
+    def __init__(self, folder):
+        self.top, self.bin = os.path.join(folder, "the check out"), os.path.join(folder, "bin")
+        for crate, file in [("dcr_set", "lib.rt"), ("dcr_base", "lib.rt"), ("dcr_app", "lib.rt"), ("dcr", "main.rt")]:
+            os.makedirs("%s/crates/%s/src" % (self.top, crate))
+            self.write("crates/%s/src/%s" % (crate, file), "first")
+        self.write("crates.txt", "# values\ndcr_set:\ndcr_base:\n\n# the program\ndcr_app: dcr_set dcr_base\ndcr: dcr_app\nother: dcr_set\n")
+        os.mkdir(self.top + "/examples")
+        self.write("examples/first.json", "a case")
+        self.write("examples/first.report", "first run\na case")
+        shutil.copy(TOP + "/dcr", self.top + "/dcr")
+        os.mkdir(self.top + "/tools")
+        shutil.copy(TOP + "/tools/built.sh", self.top + "/tools/built.sh")
+        os.mkdir(self.bin)
+        with open(self.bin + "/rt", "w") as file:
+            file.write(RT)
+        os.chmod(self.bin + "/rt", 0o755)
+        self.environment = {"PATH": self.bin + ":/usr/bin:/bin", "STAND_IN": folder}
+        self.calls_file = folder + "/calls"
+
+    def write(self, name, text):
+        with open(os.path.join(self.top, name), "w") as file:
+            file.write(text)
+
+    def change(self, text):
+        """Another program, whose report of the example is another one too."""
+        self.write("crates/dcr/src/main.rt", text)
+        self.write("examples/first.report", "%s run\na case" % text)
+
+    def calls(self):
+        with contextlib.suppress(FileNotFoundError), open(self.calls_file) as file:
+            return [line.split()[0] for line in file]
+        return []
+
+    def dcr(self, *words, by=None, given=b"input", cwd=None, **more):
+        return run([by or self.top + "/dcr", *words], given, env={**self.environment, **more}, cwd=cwd)
+
+    def begin(self, *words, **more):
+        how = {"stdin": subprocess.PIPE, "stdout": subprocess.PIPE, "stderr": subprocess.PIPE}
+        return subprocess.Popen([self.top + "/dcr", *words], env={**self.environment, **more}, start_new_session=True, **how)
+
+
+@contextlib.contextmanager
+def checkout():
+    with tempfile.TemporaryDirectory() as folder:
+        yield Checkout(folder)
+
+
+def want_ran(told, text=b"first run\ninput"):
+    want(told[:2] == (0, text), str(told))
+
+
+def check_the_first_call_builds_and_later_ones_run():
+    with checkout() as it:
+        told = it.dcr("run", SLOW="0.7")
+        want_ran(told)
+        want(b"of 4 crates, last dcr_" in told[2] or b"of 4 crates, now dcr_" in told[2] and b"so far" in told[2], "it tells too little: %s" % told[2])
+        want(all(line.startswith(b"dcr: ") for line in told[2].splitlines()), "another program speaks: %s" % told[2])
+        want(it.calls() == ["all", "run"], str(it.calls()))
+        want(it.dcr("run") == (0, b"first run\ninput", b""), "the second call isn't silent")
+        want(it.calls() == ["all", "run"], str(it.calls()))
+
+
+def check_on_a_terminal_one_line_is_written_anew():
+    try:
+        ours, theirs = pty.openpty()
+    except OSError as error:
+        raise NotTried("no terminal can be made: %s" % error) from None
+    with checkout() as it:
+        ran = subprocess.run([it.top + "/dcr", "run"], input=b"input", env=it.environment, stdout=subprocess.PIPE, stderr=theirs, timeout=300)
+    os.close(theirs)
+    said = os.read(ours, 65536)
+    os.close(ours)
+    want_ran((ran.returncode, ran.stdout, said))
+    want(b"\rdcr: proved and compiled" in said and said.count(b"\n") == 2 and said.endswith(b"\n"), str(said))
+
+
+def check_words_input_and_status_are_handed_on():
+    with checkout() as it:
+        it.dcr("run")
+        want_ran(it.dcr("run", "two words", "*", ""), b"first run two words * \ninput")
+        want(it.dcr("run", "status")[0] == 8 and it.dcr()[0] == USAGE, "the statuses")
+
+
+def check_a_change_is_built():
+    with checkout() as it:
+        it.dcr("run")
+        it.change("second")
+        want_ran(it.dcr("run"), b"second run\ninput")
+        # Neither an older time nor a file that went hides a change.
+        it.change("third")
+        os.utime(it.top + "/crates/dcr/src/main.rt", (1, 1))
+        want_ran(it.dcr("run"), b"third run\ninput")
+        before = len(it.calls())
+        os.remove(it.top + "/crates/dcr_set/src/lib.rt")
+        it.dcr("run")
+        want(len(it.calls()) > before, "a file that went is not built")
+
+
+def check_from_anywhere():
+    with checkout() as it, tempfile.TemporaryDirectory() as other:
+        it.dcr("run")
+        os.makedirs(other + "/the check out/crates")
+        os.symlink(it.top + "/dcr", other + "/link")
+        os.symlink(other + "/link", other + "/dcr")
+        want_ran(it.dcr("run", by=other + "/dcr", cwd="/"))
+        want_ran(it.dcr("run", by="./dcr", cwd=other))
+        want_ran(it.dcr("run", by="./dcr", cwd=it.top, CDPATH="%s:/" % other))
+        want_ran(it.dcr("run", by="the check out/dcr", cwd=os.path.dirname(it.top), CDPATH=other))
+        path = "%s:%s" % (other, it.environment["PATH"])
+        want_ran(run(["env", "dcr", "run"], b"input", env={**it.environment, "PATH": path}))
+        want_ran(run(["sh", "dcr", "run"], b"input", env=it.environment, cwd=it.top))
+
+
+def check_a_failed_build_runs_nothing():
+    with checkout() as it:
+        for fails, log in [("dcr_set", b"dcr_set: not proved"), ("link", b"dcr_app"), ("report", b"first.report")]:
+            status, wrote, said = it.dcr("run", FAILS=fails)
+            want((status, wrote) == (FAILED, b"") and log in said, "%s: %s" % (fails, (status, wrote, said)))
+        want(it.dcr("run", FAILS="link")[0] == FAILED, "the second time")
+        want_ran(it.dcr("run"))
+
+
+def check_the_old_program_stays_and_is_not_run():
+    with checkout() as it:
+        it.dcr("run")
+        it.change("second")
+        for fails in ("dcr_base", "link"):
+            status, wrote, said = it.dcr("run", FAILS=fails)
+            want((status, wrote) == (FAILED, b""), str((status, wrote, said)))
+            want(run([it.top + "/crates/dcr/out/dcr", "run"])[1] == b"first run\n", "the program that worked went")
+        it.change("first")
+        want_ran(it.dcr("run", FAILS="dcr_base"))
+
+
+def check_a_missing_rt_is_told():
+    with checkout() as it:
+        status, wrote, said = it.dcr("run", PATH="/usr/bin:/bin")
+        want((status, wrote) == (NO_RT, b"") and b"rt" in said and b"PATH" in said and said.count(b"\n") == 1, str((status, wrote, said)))
+        it.dcr("run")
+        want_ran(it.dcr("run", PATH="/usr/bin:/bin"))
+
+
+def check_a_checkout_that_can_t_be_written():
+    def locked(is_locked):
+        for folder in ["/crates/dcr/out", "/crates/dcr", "/crates", ""]:
+            with contextlib.suppress(FileNotFoundError):
+                os.chmod(it.top + folder, 0o555 if is_locked else 0o755)
+
+    # As root every folder can be written, so the script runs as nobody there.
+    if not os.geteuid() and not shutil.which("setpriv"):
+        raise NotTried("setpriv is not on the path")
+    own = [] if os.geteuid() else ["setpriv", "--reuid=65534", "--regid=65534", "--clear-groups"]
+    with checkout() as it:
+        os.chmod(os.path.dirname(it.top), 0o755)
+        locked(True)
+        told = run([*own, it.top + "/dcr", "run"], b"input", env=it.environment)
+        want(told[:2] == (NOT_WRITABLE, b"") and b"can't be written" in told[2], str(told))
+        locked(False)
+        it.dcr("run")
+        locked(True)
+        told = run([*own, it.top + "/dcr", "run"], b"input", env=it.environment)
+        locked(False)
+        want_ran(told)
+
+
+def check_two_calls_at_once_build_once():
+    with checkout() as it:
+        both = [it.begin("run", SLOW="0.5") for _ in range(2)]
+        for ran in both:
+            wrote, said = ran.communicate(b"input", timeout=300)
+            want_ran((ran.returncode, wrote, said))
+        want(it.calls() == ["all", "run"], str(it.calls()))
+
+
+def check_a_copy_runs_what_it_has():
+    with checkout() as it, tempfile.TemporaryDirectory() as other:
+        it.dcr("run")
+        shutil.copytree(it.top, other + "/copy", copy_function=shutil.copyfile)
+        os.chmod(other + "/copy/dcr", 0o755)
+        os.chmod(other + "/copy/crates/dcr/out/dcr", 0o755)
+        want_ran(it.dcr("run", by=other + "/copy/dcr"))
+        want(it.calls() == ["all", "run"], "a copy is built again")
+        # Copied after a change, with times that say nothing of it.
+        it.change("second")
+        shutil.copytree(it.top, other + "/second", copy_function=shutil.copyfile)
+        os.chmod(other + "/second/dcr", 0o755)
+        os.chmod(other + "/second/crates/dcr/out/dcr", 0o755)
+        want_ran(it.dcr("run", by=other + "/second/dcr"), b"second run\ninput")
+
+
+def ended(number, process_group):
+    """Begins a slow build, sends a signal to the script or to its whole group, and gives how it ended and what it wrote."""
+    with checkout() as it:
+        ran = it.begin("run", SLOW="2")
+        deadline = time.monotonic() + 60
+        while not it.calls() and time.monotonic() < deadline:
+            time.sleep(0.05)
+        (os.killpg if process_group else os.kill)(ran.pid, number)
+        wrote, said = ran.communicate(b"input", timeout=300)
+        want(ran.returncode == -number and wrote == b"" and b"interrupted" in said, str((ran.returncode, wrote, said)))
+        want_ran(it.dcr("run"))
+
+
+def check_a_build_that_is_interrupted():
+    ended(signal.SIGINT, True)
+
+
+def check_a_build_that_is_ended():
+    ended(signal.SIGTERM, False)
+
+
+def check_a_change_during_the_build_is_seen():
+    with checkout() as it:
+        ran = it.begin("run", SLOW="0.5")
+        while not it.calls():
+            time.sleep(0.05)
+        it.write("crates/dcr_set/src/lib.rt", "changed")
+        wrote, said = ran.communicate(b"input", timeout=300)
+        want((ran.returncode, wrote) == (FAILED, b"") and b"changed" in said, str((ran.returncode, wrote, said)))
+        want_ran(it.dcr("run"))
+
+
+def check_another_program_in_its_place_is_not_run():
+    with checkout() as it:
+        it.dcr("run")
+        with open(it.top + "/crates/dcr/out/dcr", "w") as file:
+            file.write("#!/bin/sh\necho another\n")
+        want_ran(it.dcr("run"))
