@@ -1,4 +1,4 @@
-mod PlainLemmas
+pub mod PlainLemmas
 mod LineLemmas
-mod Utf8Lemmas
+pub mod Utf8Lemmas
 mod ListLemmas

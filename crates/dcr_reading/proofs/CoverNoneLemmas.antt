@@ -20,7 +20,7 @@ use Rattle.dcr_reading.proofs.LengthLemmas.{items_short, site_short}
 use Rattle.dcr_reading.proofs.TextLemmas.{names_utf8, names_short}
 
 -- a set of a cover, which is empty where there is none, has room for 1,024 atoms at most
-rooms_few : (N : Nest) (C : Owners) → IsNested N → IsAcceptedCover N C → (i : ℕ) → length (get_or C.owned i []) ≤ 1024
+pub rooms_few : (N : Nest) (C : Owners) → IsNested N → IsAcceptedCover N C → (i : ℕ) → length (get_or C.owned i []) ≤ 1024
 rooms_few N C nested ok i = elim (cases_lt i (length C.owned)) [
   | inl within ↦ (let room = ok.rooms i [] within in let most = nested.most_atoms in omega arith)
   | inr past ↦ (let none : length (get_or C.owned i []) ≡ 0 = ap (λ (set : Set). length set) (get_or_past C.owned i [] past) in omega arith)

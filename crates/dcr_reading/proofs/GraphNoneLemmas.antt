@@ -22,7 +22,8 @@ use Rattle.dcr_reading.proofs.LengthLemmas.{member_short, items_short, node_shor
 use Rattle.dcr_reading.proofs.StageLemmas.{at_index}
 use Rattle.dcr_reading.proofs.TextLemmas.{names_utf8, names_short}
 
-text_short : (version : Version) (N : Nest) → IsAcceptedGraph version N → length (graph_text N) ≤ 33554432
+-- the canonical text of an accepted graph is short
+pub text_short : (version : Version) (N : Nest) → IsAcceptedGraph version N → length (graph_text N) ≤ 8388608
 unfolding graph_text graph_value
 text_short version N ok =
     let names = names_of N.nodes in

@@ -105,7 +105,7 @@ relation_short names short relation =
     let b = quoted_short (get_or names relation.2 []) in let few_b = short relation.2 in omega arith
 
 -- a set has at most as many numbers as it has room for
-numbers_few : (owned : Set) → length (numbers owned) ≤ length owned
+pub numbers_few : (owned : Set) → length (numbers owned) ≤ length owned
 unfolding numbers
 numbers_few owned =
     let kept = length-filter (has owned) (range_with_len 0 (length owned)) in

@@ -1,12 +1,12 @@
 mod JsonLemmas
 mod MemoryLemmas
-mod StageLemmas
+pub mod StageLemmas
 mod NamedLemmas
-mod TextLemmas
-mod LengthLemmas
-mod GraphLemmas
-mod GraphNoneLemmas
+pub mod TextLemmas
+pub mod LengthLemmas
+pub mod GraphLemmas
+pub mod GraphNoneLemmas
 mod LendLemmas
-mod SiteLemmas
-mod CoverLemmas
-mod CoverNoneLemmas
+pub mod SiteLemmas
+pub mod CoverLemmas
+pub mod CoverNoneLemmas

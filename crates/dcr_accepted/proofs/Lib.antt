@@ -1,0 +1,5 @@
+mod StringLemmas
+mod ValueLemmas
+mod GivenLemmas
+mod LengthLemmas
+mod FileLemmas
