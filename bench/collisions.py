@@ -1,12 +1,13 @@
 #!/usr/bin/env python3
-"""Times look-ups of names whose hashes collide, beside as many names drawn at random.
+"""Times look-ups of names whose hashes collide beside those of as many names drawn at random.
 
-    bench/collisions.py            the case files and the reports; status 1 where a ratio is above 1.5
+    bench/collisions.py            the case files, the reports, the calls and the entries; status 1 where a ratio is above 1.5
 
-Whoever writes a file can compute names that share a place in every table kept by hash, since the hash has a fixed
+Whoever writes a file can compute names that share a place in every table kept by one hash, since the hash has a fixed
 seed. Here are 2,048 nodes with such names, 1,024 of them atoms below the others, and one site whose owned texts name
 the last of them as often as 16 MB hold; and a report with the same texts in its cover line, which is read to its end
-before it is refused. Names of 7 bytes share the low 11 bits of their hash; names of 48 bytes share the whole hash.
+before it is refused. Then 200,000 calls of the last atom, and the report of their run. Names of 7 bytes share the low
+11 bits of their hash; names of 48 bytes share the whole hash. The seconds are those of the processor.
 Build first: `./dcr`.
 """
 
@@ -121,11 +122,27 @@ def report(names):
     return b"\n".join(lines)
 
 
+def called(names):
+    """A case with as many calls as there may be, each of the last atom."""
+    front = b'{"graph":{"events":[' + events(names) + b']},"cover":[{"site":"x","events":[' + owned(names, 0) + b"]}],"
+    return front + b'"sessions":[[' + b",".join([b'"exec x %s"' % names[-1]] * 200_000) + b"]]}"
+
+
+def answered(names):
+    """The report of the run of these calls."""
+    return subprocess.run(PROGRAM, input=called(names), stdout=subprocess.PIPE, check=True).stdout
+
+
 def main():
     short, long = colliding_short(1), colliding_long(2)
     print("%-34s %6s %9s %9s %6s" % ("look-ups of names", "status", "random s", "equal s", "ratio"))
     worst = 0.0
-    for title, command, make in [("case", PROGRAM, case), ("report", REPLAY, report)]:
+    for title, command, make in [
+        ("case", PROGRAM, case),
+        ("report", REPLAY, report),
+        ("calls", PROGRAM, called),
+        ("entries", REPLAY, answered),
+    ]:
         for count, names in [(7, short), (48, long)]:
             _, _, fair, _ = measure(command, make(at_random(count, 3)))
             status, _, unfair, _ = measure(command, make(names))

@@ -10,6 +10,7 @@ use Rattle.std.specs.Cmp.Lexicographic.{slice_cmp}
 use Rattle.std.proofs.lemmas.Nat.{mod_below}
 use Rattle.std.proofs.lemmas.List.{take_more, length-take, length-map, map_push, length-set, length_push, get_or-set_same, get_or-set_other, get_or_push, get_or_append_left}
 use Rattle.std.proofs.lemmas.Slice.Eq.{bytes_eq-Decides}
+use Rattle.std.specs.declared.hash.FoldHasher.{FoldHasher}
 use Rattle.dcr_set.specs.Least.{least}
 use Rattle.dcr_set.proofs.LeastLemmas.{or_this, least-ext, least-none_from, least-suc}
 use Rattle.dcr_graph.specs.Names.{number_of}
@@ -18,9 +19,9 @@ use Rattle.dcr_graph.specs.IndexModel.{Numbers, place_among, number_at, with_num
 -- ---- a map
 
 -- a text's place is among them
-pub within : (places : ℕ) (text : List ℕ) → 0 < places → place_among places text < places
+pub within : (places : ℕ) (start : FoldHasher) (text : List ℕ) → 0 < places → place_among places start text < places
 unfolding place_among
-within places text some = mod_below _ places some
+within places start text some = mod_below _ places some
 
 same_text : (a b : List ℕ) → bytes_eq a b ≡ true → a ≡ b
 same_text a b e = (bytes_eq-Decides a b).0 e
@@ -76,22 +77,22 @@ pub texts_before : (texts : List (Bor (List ℕ))) (i : ℕ) → i < length text
 texts_before texts i within = sym (length-map (take i texts) (λ (text : Bor (List ℕ)). text.now) ∙ (let e : length (take i texts) ≡ i = omega (arith, length-take i texts) in e))
 
 -- no text has a number at first
-pub none_yet : (places : List Numbers) → All (λ (numbers : Numbers). numbers.entries ≡ []) places → 0 < length places → HasNumbers places []
-none_yet places empty some = λ text d.
-    let place = place_among (length places) text in
-    ap (λ es. lookup (is_at (λ (key : Bor (List ℕ)). slice_cmp nat_cmp text key.now)) es) (empty place d (within (length places) text some))
+pub none_yet : (start : FoldHasher) (places : List Numbers) → All (λ (numbers : Numbers). numbers.entries ≡ []) places → 0 < length places → HasNumbers start places []
+none_yet start places empty some = λ text d.
+    let place = place_among (length places) start text in
+    ap (λ es. lookup (is_at (λ (key : Bor (List ℕ)). slice_cmp nat_cmp text key.now)) es) (empty place d (within (length places) start text some))
     ∙ sym (least-none_from 0 (λ k. bytes_eq (get_or {A = List ℕ} [] k []) text) (λ j l. absurd (omega arith)))
 
 -- the map at the text's place has its number after the step, and the maps elsewhere are as before
-pub numbers_more : (places : List Numbers) (was numbers : Numbers) (texts more : List (List ℕ)) (text : List ℕ) (p number : ℕ) → more ≡ texts ++ text ∷ [] → p < length places → p ≡ place_among (length places) text → number ≡ length texts
-    → was ≡ get_or places p was → HasNumbers places texts → ((other : List ℕ) → number_at numbers other ≡ with_number (number_at was other) text number other)
-    → HasNumbers (set places p numbers) more
-numbers_more places was numbers texts more text p number longer within at_text many read before put = λ other d.
-    ap (λ n. number_at (get_or (set places p numbers) (place_among n other) d) other) (length-set places p numbers)
+pub numbers_more : (start : FoldHasher) (places : List Numbers) (was numbers : Numbers) (texts more : List (List ℕ)) (text : List ℕ) (p number : ℕ) → more ≡ texts ++ text ∷ [] → p < length places → p ≡ place_among (length places) start text → number ≡ length texts
+    → was ≡ get_or places p was → HasNumbers start places texts → ((other : List ℕ) → number_at numbers other ≡ with_number (number_at was other) text number other)
+    → HasNumbers start (set places p numbers) more
+numbers_more start places was numbers texts more text p number longer within at_text many read before put = λ other d.
+    ap (λ n. number_at (get_or (set places p numbers) (place_among n start other) d) other) (length-set places p numbers)
     ∙ (at other d (same_or_apart (place other) p) ∙ (ap (λ n. with_number (number_of texts other) text n other) many ∙ (sym (number_more texts text other) ∙ ap (λ ts. number_of ts other) (sym longer))))
   where
     place : List ℕ → ℕ
-    place t = place_among (length places) t
+    place t = place_among (length places) start t
 
     apart : (other : List ℕ) (o : Option ℕ) → place other ≢ p → o ≡ with_number o text number other
     apart other (Some k) away = refl

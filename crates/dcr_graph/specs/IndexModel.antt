@@ -6,6 +6,7 @@ use Rattle.std.specs.Ordering.{nat_cmp}
 use Rattle.std.specs.Cmp.Lexicographic.{slice_cmp}
 use Rattle.std.specs.BTreeMap.{BTreeMap, get_by}
 use Rattle.std.specs.Hash.FoldHasher as hash
+use Rattle.std.specs.declared.hash.FoldHasher.{FoldHasher}
 use Rattle.dcr_graph.specs.Names.{number_of}
 use Rattle.dcr_graph.specs.declared.index.NameIndex.TheInside.{Inside}
 
@@ -17,9 +18,9 @@ texts_of x = map (λ text. text.now) x.texts.items
 abbrev pub Numbers : Type 0
 Numbers = BTreeMap (Bor (List ℕ)) ℕ
 
--- the place of a text among so many
-unfoldable pub place_among : ℕ → List ℕ → ℕ
-place_among places text = hash.finish (hash.write hash.initial text) % places
+-- the place of a text among so many, where its hash goes on from this start
+unfoldable pub place_among : ℕ → FoldHasher → List ℕ → ℕ
+place_among places start text = hash.finish (hash.write start text) % places
 
 -- the number of a text in a map
 abbrev pub number_at : Numbers → List ℕ → Option ℕ
@@ -31,10 +32,14 @@ with_number (Some old) text number other = Some old
 with_number None text number other = if bytes_eq text other then Some number else None
 
 -- the map at a text's place has its number
-abbrev pub HasNumbers : List Numbers → List (List ℕ) → Type 0
-HasNumbers places texts = (text : List ℕ) (d : Numbers) → number_at (slice_index_or places (place_among (length places) text) d) text ≡ number_of texts text
+abbrev pub HasNumbers : FoldHasher → List Numbers → List (List ℕ) → Type 0
+HasNumbers start places texts = (text : List ℕ) (d : Numbers) → number_at (slice_index_or places (place_among (length places) start text) d) text ≡ number_of texts text
+
+-- there is a place, and each text's number stands at its own
+pub record HasPlaces (start : FoldHasher) (places : List Numbers) (texts : List (List ℕ)) : Type 0 where
+  pub some : 0 < length places
+  pub numbers : HasNumbers start places texts
 
 pub record IsIndex (x : Inside) : Type 0 where
   pub most : length x.texts.items ≤ 2048
-  pub some_place : 0 < length x.places.items
-  pub numbers : HasNumbers x.places.items (texts_of x)
+  pub places : HasPlaces x.start x.places.items (texts_of x)

@@ -5,7 +5,7 @@ use crate::build::{graph_of, members};
 use dcr_graph::{Graph, Marking, Name, SiteMark};
 use dcr_journal::Call;
 use dcr_line::{
-    read_call, read_entry, read_mark, write_call, write_entry, write_event, write_mark,
+    Directory, read_call, read_entry, read_mark, write_call, write_entry, write_event, write_mark,
     write_marking,
 };
 use dcr_proj::Cover;
@@ -54,7 +54,8 @@ fn assert_call(
 ) -> Result<(), Fail>
     requires { length graph.now.names ≡ 4 }
 {
-    let found = read_call(line.as_bytes(), graph, cover).ok_or("a call")?;
+    let directory = Directory::new(alloc, graph, cover)?;
+    let found = read_call(line.as_bytes(), &directory).ok_or("a call")?;
     assert_eq!(rt; found, want, "{line}");
     let mut out = Vec::from_slice(alloc, b"> ")?;
     write_call(&found, graph, cover, &mut out)?;
@@ -85,8 +86,9 @@ fn calls_and_their_lines(rt: HostRuntime) -> Result<(), Fail> {
 
 #[test]
 fn lines_that_ask_for_nothing(rt: HostRuntime) -> Result<(), Fail> {
-    let graph = graph_of(rt.alloc(), &[])?;
-    let cover = cover(rt.alloc())?;
+    let alloc = rt.alloc();
+    let graph = graph_of(alloc, &[])?;
+    let cover = cover(alloc)?;
     let rows: [&[u8]; 24] = [
         b"",
         b" ",
@@ -113,8 +115,9 @@ fn lines_that_ask_for_nothing(rt: HostRuntime) -> Result<(), Fail> {
         b"accepting doctor",
         b"accept",
     ];
+    let directory = Directory::new(alloc, &graph, &cover)?;
     for line in rows {
-        assert_eq!(rt; read_call(line, &graph, &cover), None, "{line:?}");
+        assert_eq!(rt; read_call(line, &directory), None, "{line:?}");
     }
     Ok(())
 }
@@ -132,7 +135,8 @@ fn assert_entry(
 ) -> Result<(), Fail>
     requires { length graph.now.names ≡ 4 }
 {
-    let told = read_entry(line.as_bytes(), graph, cover).ok_or("an entry")?;
+    let directory = Directory::new(alloc, graph, cover)?;
+    let told = read_entry(line.as_bytes(), &directory).ok_or("an entry")?;
     assert_eq!(rt; told.0, place, "{line}");
     assert_eq!(rt; told.1.session, session, "{line}");
     assert_eq!(rt; told.1.seq, seq, "{line}");
@@ -187,8 +191,9 @@ fn entries_and_their_lines(rt: HostRuntime) -> Result<(), Fail> {
 
 #[test]
 fn lines_that_tell_no_entry(rt: HostRuntime) -> Result<(), Fail> {
-    let graph = graph_of(rt.alloc(), &[])?;
-    let cover = cover(rt.alloc())?;
+    let alloc = rt.alloc();
+    let graph = graph_of(alloc, &[])?;
+    let cover = cover(alloc)?;
     let rows: [&[u8]; 36] = [
         b"",
         b"accepting yes",
@@ -227,8 +232,9 @@ fn lines_that_tell_no_entry(rt: HostRuntime) -> Result<(), Fail> {
         b"0 0 0 enabled doctor can -,pm",
         b"0 0 0 enabled doctor can pm, s",
     ];
+    let directory = Directory::new(alloc, &graph, &cover)?;
     for line in rows {
-        assert!(rt; read_entry(line, &graph, &cover).is_none(), "{line:?}");
+        assert!(rt; read_entry(line, &directory).is_none(), "{line:?}");
     }
     Ok(())
 }
@@ -243,7 +249,9 @@ fn assert_mark(
 ) -> Result<(), Fail>
     requires { length graph.now.names ≡ 4 }
 {
-    let found = read_mark(text.as_bytes(), graph).ok_or("marks")?;
+    let cover = cover(alloc)?;
+    let directory = Directory::new(alloc, graph, &cover)?;
+    let found = read_mark(text.as_bytes(), &directory).ok_or("marks")?;
     assert_eq!(rt; members(&found.executed), members(&want.executed), "{text}");
     assert_eq!(rt; members(&found.pending), members(&want.pending), "{text}");
     assert_eq!(rt; members(&found.included), members(&want.included), "{text}");
@@ -286,7 +294,9 @@ fn marks_and_their_texts(rt: HostRuntime) -> Result<(), Fail> {
     for (text, want) in &rows {
         assert_mark(&rt, alloc, &graph, text, want)?;
     }
-    assert!(rt; read_mark(b"executed - pending - included pm ", &graph).is_none());
+    let cover = cover(alloc)?;
+    let directory = Directory::new(alloc, &graph, &cover)?;
+    assert!(rt; read_mark(b"executed - pending - included pm ", &directory).is_none());
     Ok(())
 }
 

@@ -6,4 +6,5 @@ pub mod PiecesModel
 pub mod Words
 pub mod CallLine
 pub mod MarkLine
+pub mod DirectoryModel
 pub mod EntryLine

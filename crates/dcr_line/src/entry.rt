@@ -3,31 +3,30 @@ ghost use Rattle.dcr_line.specs.Fits.{FitsEntry};
 ghost use Rattle.dcr_line.specs.EntryLine.{number_in, number_from, exec_outcome_from, exec_outcome_after, look_outcome_from, enabled_outcome_from, verdict_from, verdict_after, outcome_from, entry_from, entry_in};
 
 use crate::call::{take_call, take_event};
+use crate::directory::Directory;
 use crate::mark::{take_list, take_mark};
 use crate::pieces::Pieces;
-use dcr_graph::Graph;
 use dcr_journal::{Call, Entry, Outcome};
-use dcr_proj::Cover;
 use dcr_text::read_decimal;
 
 /// The entry that a line tells, with its place: the place, the session, how many calls the session had made
 /// before, the call, and an outcome of its kind, with one space between each two words. The numbers are
 /// decimal, without leading zeros, and have 32 bits. None exactly where the line tells no entry.
-pub fn read_entry(line: &[u8], graph: &Graph, cover: &Cover) -> Option<(u32, Entry)>
-    ensures entry { result ≡ entry_in cover.now.names graph.now.names line.now }
+pub fn read_entry(line: &[u8], directory: &Directory<'_>) -> Option<(u32, Entry)>
+    ensures entry { result ≡ entry_in directory.now.sites directory.now.atoms line.now }
     ensures fits { IfSome result
-        (λ told. FitsEntry (length cover.now.names) (length graph.now.names) told.1) }
+        (λ told. FitsEntry (length directory.now.sites) (length directory.now.atoms) told.1) }
 {
-    entry_of(line, graph, cover)
+    entry_of(line, directory)
 }
 
 // As `read_entry`, by the words of the line.
 #[tactic(auto, unfolding(crate::specs::EntryLine::entry_in))]
-fn entry_of(line: &[u8], graph: &Graph, cover: &Cover) -> Option<(u32, Entry)>
-    ensures { result ≡ entry_in cover.now.names graph.now.names line.now }
+fn entry_of(line: &[u8], directory: &Directory<'_>) -> Option<(u32, Entry)>
+    ensures { result ≡ entry_in directory.now.sites directory.now.atoms line.now }
 {
     let mut words = Pieces::of(line, b' ');
-    let told = take_entry(&mut words, graph, cover)?;
+    let told = take_entry(&mut words, directory)?;
     if words.next().is_some() {
         return None;
     }
@@ -36,15 +35,15 @@ fn entry_of(line: &[u8], graph: &Graph, cover: &Cover) -> Option<(u32, Entry)>
 
 // Takes the place and the entry that the words begin with.
 #[tactic(auto, unfolding(crate::specs::EntryLine::entry_from))]
-fn take_entry(words: &mut Pieces<'_>, graph: &Graph, cover: &Cover) -> Option<(u32, Entry)>
+fn take_entry(words: &mut Pieces<'_>, directory: &Directory<'_>) -> Option<(u32, Entry)>
     ensures { option_map (λ told. (told, words.new)) result
-        ≡ entry_from cover.now.names graph.now.names words.old }
+        ≡ entry_from directory.now.sites directory.now.atoms words.old }
 {
     let place = take_number(words)?;
     let session = take_number(words)?;
     let seq = take_number(words)?;
-    let call = take_call(words, graph, cover)?;
-    let outcome = take_outcome(&call, words, graph)?;
+    let call = take_call(words, directory)?;
+    let outcome = take_outcome(&call, words, directory)?;
     Some((
         place,
         Entry {
@@ -76,32 +75,36 @@ fn read_number(text: &[u8]) -> Option<u32>
 }
 
 // Takes an outcome of the call's kind.
-fn take_outcome(call: &Call, words: &mut Pieces<'_>, graph: &Graph) -> Option<Outcome>
+fn take_outcome(call: &Call, words: &mut Pieces<'_>, directory: &Directory<'_>) -> Option<Outcome>
     ensures { option_map (λ outcome. (outcome, words.new)) result
-        ≡ outcome_from graph.now.names call.now words.old }
+        ≡ outcome_from directory.now.atoms call.now words.old }
 {
     match call {
-        Call::Exec(_, _) => take_exec_outcome(words, graph),
-        Call::Look(_) => take_look_outcome(words, graph),
-        Call::Enabled(_) => take_enabled_outcome(words, graph),
-        Call::Accepting => take_verdict(words, graph),
+        Call::Exec(_, _) => take_exec_outcome(words, directory),
+        Call::Look(_) => take_look_outcome(words, directory),
+        Call::Enabled(_) => take_enabled_outcome(words, directory),
+        Call::Accepting => take_verdict(words, directory),
     }
 }
 
 // Takes the outcome of an execution.
-fn take_exec_outcome(words: &mut Pieces<'_>, graph: &Graph) -> Option<Outcome>
+fn take_exec_outcome(words: &mut Pieces<'_>, directory: &Directory<'_>) -> Option<Outcome>
     ensures { option_map (λ outcome. (outcome, words.new)) result
-        ≡ exec_outcome_from graph.now.names words.old }
+        ≡ exec_outcome_from directory.now.atoms words.old }
 {
     let word = words.next()?;
-    take_exec_outcome_after(word, words, graph)
+    take_exec_outcome_after(word, words, directory)
 }
 
 // Takes the rest of the outcome of an execution that begins with the word.
 #[tactic(auto, unfolding(crate::specs::EntryLine::exec_outcome_after))]
-fn take_exec_outcome_after(word: &[u8], words: &mut Pieces<'_>, graph: &Graph) -> Option<Outcome>
+fn take_exec_outcome_after(
+    word: &[u8],
+    words: &mut Pieces<'_>,
+    directory: &Directory<'_>,
+) -> Option<Outcome>
     ensures { option_map (λ outcome. (outcome, words.new)) result
-        ≡ exec_outcome_after graph.now.names word.now words.old }
+        ≡ exec_outcome_after directory.now.atoms word.now words.old }
 {
     if word == b"done".as_slice() {
         return Some(Outcome::Done);
@@ -113,10 +116,10 @@ fn take_exec_outcome_after(word: &[u8], words: &mut Pieces<'_>, graph: &Graph) -
         return Some(Outcome::Excluded);
     }
     if word == b"condition".as_slice() {
-        return Some(Outcome::Condition(take_event(words, graph)?));
+        return Some(Outcome::Condition(take_event(words, directory)?));
     }
     if word == b"milestone".as_slice() {
-        return Some(Outcome::Milestone(take_event(words, graph)?));
+        return Some(Outcome::Milestone(take_event(words, directory)?));
     }
     if word == b"faulted".as_slice() {
         return Some(Outcome::Faulted);
@@ -125,43 +128,47 @@ fn take_exec_outcome_after(word: &[u8], words: &mut Pieces<'_>, graph: &Graph) -
 }
 
 // Takes the marks that a look is answered by.
-fn take_look_outcome(words: &mut Pieces<'_>, graph: &Graph) -> Option<Outcome>
+fn take_look_outcome(words: &mut Pieces<'_>, directory: &Directory<'_>) -> Option<Outcome>
     ensures { option_map (λ outcome. (outcome, words.new)) result
-        ≡ look_outcome_from graph.now.names words.old }
+        ≡ look_outcome_from directory.now.atoms words.old }
 {
-    let mark = take_mark(words, graph)?;
+    let mark = take_mark(words, directory)?;
     Some(Outcome::Marks(mark))
 }
 
 // Takes the set that the question what is enabled is answered by.
-fn take_enabled_outcome(words: &mut Pieces<'_>, graph: &Graph) -> Option<Outcome>
+fn take_enabled_outcome(words: &mut Pieces<'_>, directory: &Directory<'_>) -> Option<Outcome>
     ensures { option_map (λ outcome. (outcome, words.new)) result
-        ≡ enabled_outcome_from graph.now.names words.old }
+        ≡ enabled_outcome_from directory.now.atoms words.old }
 {
-    let set = take_list(b"can", words, graph)?;
+    let set = take_list(b"can", words, directory)?;
     Some(Outcome::Can(set))
 }
 
 // Takes the verdict.
-fn take_verdict(words: &mut Pieces<'_>, graph: &Graph) -> Option<Outcome>
+fn take_verdict(words: &mut Pieces<'_>, directory: &Directory<'_>) -> Option<Outcome>
     ensures { option_map (λ outcome. (outcome, words.new)) result
-        ≡ verdict_from graph.now.names words.old }
+        ≡ verdict_from directory.now.atoms words.old }
 {
     let word = words.next()?;
-    take_verdict_after(word, words, graph)
+    take_verdict_after(word, words, directory)
 }
 
 // Takes the rest of the verdict that begins with the word.
 #[tactic(auto, unfolding(crate::specs::EntryLine::verdict_after))]
-fn take_verdict_after(word: &[u8], words: &mut Pieces<'_>, graph: &Graph) -> Option<Outcome>
+fn take_verdict_after(
+    word: &[u8],
+    words: &mut Pieces<'_>,
+    directory: &Directory<'_>,
+) -> Option<Outcome>
     ensures { option_map (λ outcome. (outcome, words.new)) result
-        ≡ verdict_after graph.now.names word.now words.old }
+        ≡ verdict_after directory.now.atoms word.now words.old }
 {
     if word == b"yes".as_slice() {
         return Some(Outcome::AllDone);
     }
     if word == b"waits".as_slice() {
-        return Some(Outcome::Waits(take_event(words, graph)?));
+        return Some(Outcome::Waits(take_event(words, directory)?));
     }
     None
 }

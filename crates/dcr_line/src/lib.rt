@@ -2,6 +2,7 @@
 #![tactic(auto)]
 
 mod call;
+mod directory;
 mod entry;
 pub mod laws;
 mod mark;
@@ -10,6 +11,7 @@ mod put;
 mod write;
 
 pub use call::read_call;
+pub use directory::Directory;
 pub use entry::read_entry;
 pub use mark::read_mark;
 pub use write::{write_call, write_entry, write_event, write_mark, write_marking};

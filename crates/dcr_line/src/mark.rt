@@ -1,31 +1,31 @@
 ghost use Rattle.std.specs.Prelude.{◌≡◌, length, option_map, IfSome};
 ghost use Rattle.dcr_graph.specs.Projection.{FitsAtoms};
 ghost use Rattle.dcr_line.specs.Words.{first_by, words_behind};
-ghost use Rattle.dcr_graph.specs.Names.{number_of};
-ghost use Rattle.dcr_line.specs.MarkLine.{from_low, listed_in, list_in, list_from, mark_from, mark_in};
+ghost use Rattle.dcr_line.specs.MarkLine.{listed_in, list_in, list_from, mark_from, mark_in};
 
+use crate::directory::Directory;
 use crate::pieces::Pieces;
-use dcr_graph::{Graph, SiteMark};
-use dcr_set::{EventId, EventSet};
+use dcr_graph::SiteMark;
+use dcr_set::EventSet;
 
 /// The marks of a site that a text tells: the lists of the executed, the pending and the included atoms,
 /// each behind its word, with one space between each two words. A list is names of atoms in ascending order
 /// of their numbers with commas between, or `-` for none. None exactly where the text tells no marks.
-pub fn read_mark(text: &[u8], graph: &Graph) -> Option<SiteMark>
-    ensures mark { result ≡ mark_in graph.now.names text.now }
+pub fn read_mark(text: &[u8], directory: &Directory<'_>) -> Option<SiteMark>
+    ensures mark { result ≡ mark_in directory.now.atoms text.now }
     ensures fits { IfSome result
-        (λ mark. FitsAtoms (length graph.now.names) mark.executed mark.pending mark.included) }
+        (λ mark. FitsAtoms (length directory.now.atoms) mark.executed mark.pending mark.included) }
 {
-    mark_of(text, graph)
+    mark_of(text, directory)
 }
 
 // As `read_mark`, by the words of the text.
 #[tactic(auto, unfolding(crate::specs::MarkLine::mark_in))]
-fn mark_of(text: &[u8], graph: &Graph) -> Option<SiteMark>
-    ensures { result ≡ mark_in graph.now.names text.now }
+fn mark_of(text: &[u8], directory: &Directory<'_>) -> Option<SiteMark>
+    ensures { result ≡ mark_in directory.now.atoms text.now }
 {
     let mut words = Pieces::of(text, b' ');
-    let mark = take_mark(&mut words, graph)?;
+    let mark = take_mark(&mut words, directory)?;
     if words.next().is_some() {
         return None;
     }
@@ -34,12 +34,12 @@ fn mark_of(text: &[u8], graph: &Graph) -> Option<SiteMark>
 
 /// Takes the three lists of marks that the words begin with.
 #[tactic(auto, unfolding(crate::specs::MarkLine::mark_from))]
-pub(crate) fn take_mark(words: &mut Pieces<'_>, graph: &Graph) -> Option<SiteMark>
-    ensures { option_map (λ mark. (mark, words.new)) result ≡ mark_from graph.now.names words.old }
+pub(crate) fn take_mark(words: &mut Pieces<'_>, directory: &Directory<'_>) -> Option<SiteMark>
+    ensures { option_map (λ mark. (mark, words.new)) result ≡ mark_from directory.now.atoms words.old }
 {
-    let executed = take_list(b"executed", words, graph)?;
-    let pending = take_list(b"pending", words, graph)?;
-    let included = take_list(b"included", words, graph)?;
+    let executed = take_list(b"executed", words, directory)?;
+    let pending = take_list(b"pending", words, directory)?;
+    let included = take_list(b"included", words, directory)?;
     Some(SiteMark {
         executed,
         pending,
@@ -49,12 +49,16 @@ pub(crate) fn take_mark(words: &mut Pieces<'_>, graph: &Graph) -> Option<SiteMar
 
 /// Takes a word and the list behind it.
 #[tactic(auto, unfolding(crate::specs::MarkLine::list_from, crate::specs::Words::first_by))]
-pub(crate) fn take_list(known: &[u8], words: &mut Pieces<'_>, graph: &Graph) -> Option<EventSet>
+pub(crate) fn take_list(
+    known: &[u8],
+    words: &mut Pieces<'_>,
+    directory: &Directory<'_>,
+) -> Option<EventSet>
     ensures { option_map (λ set. (set, words.new)) result
-        ≡ list_from known.now graph.now.names words.old }
+        ≡ list_from known.now directory.now.atoms words.old }
 {
     take_word(known, words)?;
-    read_list(words.next()?, graph)
+    read_list(words.next()?, directory)
 }
 
 // Takes this word.
@@ -70,39 +74,25 @@ fn take_word(known: &[u8], words: &mut Pieces<'_>) -> Option<()>
 
 // The set that a list of names is.
 #[tactic(auto, unfolding(crate::specs::MarkLine::list_in))]
-fn read_list(text: &[u8], graph: &Graph) -> Option<EventSet>
-    ensures { result ≡ list_in graph.now.names text.now }
+fn read_list(text: &[u8], directory: &Directory<'_>) -> Option<EventSet>
+    ensures { result ≡ list_in directory.now.atoms text.now }
 {
     if text == b"-".as_slice() {
-        return Some(EventSet::new(graph.atoms()));
+        return Some(EventSet::new(directory.atoms()));
     }
-    read_names(text, graph)
+    read_names(text, directory)
 }
 
 // The set whose names stand between commas, in ascending order.
-fn read_names(text: &[u8], graph: &Graph) -> Option<EventSet>
-    ensures { result ≡ listed_in graph.now.names text.now }
+fn read_names(text: &[u8], directory: &Directory<'_>) -> Option<EventSet>
+    ensures { result ≡ listed_in directory.now.atoms text.now }
 {
-    let mut set = EventSet::new(graph.atoms());
+    let mut set = EventSet::new(directory.atoms());
     let mut low = 0;
     for name in Pieces::of(text, b',') {
-        let e = atom_from(low, name, graph)?;
+        let e = directory.atom_from(low, name)?;
         set.insert(e);
         low = e.0 + 1;
     }
     Some(set)
-}
-
-// The atom with this name, where its number is at least `low`. Names are distinct, so that those below need not be
-// looked at.
-fn atom_from(low: u16, name: &[u8], graph: &Graph) -> Option<EventId>
-    ensures { result ≡ from_low low (number_of graph.now.names name.now) }
-{
-    for number in low..graph.atoms() {
-        let e = EventId(number);
-        if graph.name(e).text().as_bytes() == name {
-            return Some(e);
-        }
-    }
-    None
 }

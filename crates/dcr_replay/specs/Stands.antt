@@ -5,6 +5,7 @@ use Rattle.dcr_graph.specs.GraphValue.{rules_of}
 use Rattle.dcr_proj.specs.CoverValue.{IsCover}
 use Rattle.dcr_journal.specs.Run.{made_by}
 use Rattle.dcr_journal.specs.declared.call.Entry.{Entry}
+use Rattle.dcr_line.specs.DirectoryModel.{named}
 use Rattle.dcr_replay.specs.Cut.{Line}
 use Rattle.dcr_replay.specs.EntryLines.{Setting, last_of, has_fault, entry_at}
 use Rattle.dcr_replay.specs.Tracks.{tracked_of}
@@ -16,6 +17,7 @@ pub record IsSound (run : Run) : Type 0 where
   pub graph : run.plain.graph ≡ run.graph.now
   pub rooms : All (λ set. length set ≡ length run.graph.now.names) run.cover.now.owned
   pub is_cover : IsCover run.cover.now
+  pub directory : run.directory.now ≡ named run.cover.now.names run.graph.now.names
   pub tracked : run.tracked.items ≡ map (tracked_of (rules_of run.graph.now)) run.cover.now.owned
   pub sessions : length run.made.items ≡ 1024
   pub most : run.len ≤ 200000

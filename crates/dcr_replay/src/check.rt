@@ -4,6 +4,7 @@ ghost use Rattle.dcr_graph.specs.GraphValue.{rules_of};
 ghost use Rattle.dcr_graph.specs.Pairs.{first_clash};
 ghost use Rattle.dcr_graph.specs.Projection.{HasRoom};
 ghost use Rattle.dcr_nest.specs.FlatRelation.{IsFlattening, flat_relation};
+ghost use Rattle.dcr_line.specs.DirectoryModel.{named};
 ghost use Rattle.dcr_replay.specs.Cut.{lines_of};
 ghost use Rattle.dcr_replay.specs.HeadLines.{TellsNoText, opening_at, version_at};
 ghost use Rattle.dcr_replay.specs.declared.verdict.Verdict.TheVariants.{Invalid};
@@ -17,6 +18,7 @@ use crate::head::{read_cover, read_graph, read_opening, read_version};
 use crate::lines::Lines;
 use crate::verdict::{Verdict, Wrong};
 use dcr_graph::{Graph, GraphStop, Marking};
+use dcr_line::Directory;
 use dcr_nest::{Nested, Version};
 use dcr_proj::Cover;
 use dcr_set::NoMemory;
@@ -89,7 +91,23 @@ fn check_cover(
         });
     };
     lines.pass();
-    check_opening(alloc, graph, &cover, lines)
+    check_history(alloc, graph, &cover, lines)
+}
+
+// The verdict from the line of the opening marking on. The names of the sites and the atoms are put into a directory
+// first, for all the lines behind.
+fn check_history(
+    alloc: Global,
+    graph: &Graph,
+    cover: &Cover,
+    lines: &mut Lines<'_>,
+) -> Result<Verdict, NoMemory>
+    requires rooms { All (λ set. length set ≡ length graph.now.names) cover.now.owned }
+    requires cover { IsCover cover.now }
+    ensures { IfOk result (λ verdict. verdict ≡ from_opening (rules_of graph.now) graph.now.names cover.now lines.old) }
+{
+    let directory = Directory::new(alloc, graph, cover)?;
+    check_opening(alloc, graph, cover, &directory, lines)
 }
 
 // The verdict from the line of the opening marking on.
@@ -97,38 +115,42 @@ fn check_opening(
     alloc: Global,
     graph: &Graph,
     cover: &Cover,
+    directory: &Directory<'_>,
     lines: &mut Lines<'_>,
 ) -> Result<Verdict, NoMemory>
+    requires directory { directory.now ≡ named cover.now.names graph.now.names }
     requires rooms { All (λ set. length set ≡ length graph.now.names) cover.now.owned }
     requires cover { IsCover cover.now }
     ensures verdict { IfOk result (λ verdict. verdict ≡ from_opening (rules_of graph.now) graph.now.names cover.now lines.old) }
     ensures no_marking { opening_at graph.now.names lines.old ≡ None → result ≡ Ok (Invalid 4 wrong.Opening) }
 {
-    let Some(opening) = read_opening(lines, graph) else {
+    let Some(opening) = read_opening(lines, directory) else {
         return Ok(Verdict::Invalid {
             line: 4,
             kind: Wrong::Opening,
         });
     };
     lines.pass();
-    check_run(alloc, graph, cover, &opening, lines)
+    check_run(alloc, graph, cover, directory, &opening, lines)
 }
 
 // The verdict from the first entry on.
-fn check_run(
+fn check_run<'g>(
     alloc: Global,
-    graph: &Graph,
-    cover: &Cover,
+    graph: &'g Graph,
+    cover: &'g Cover,
+    directory: &'g Directory<'_>,
     opening: &Marking,
     lines: &mut Lines<'_>,
 ) -> Result<Verdict, NoMemory>
+    requires directory { directory.now ≡ named cover.now.names graph.now.names }
     requires rooms { All (λ set. length set ≡ length graph.now.names) cover.now.owned }
     requires cover { IsCover cover.now }
     requires opening { HasRoom (length graph.now.names) opening.now }
     ensures { IfOk result (λ verdict. verdict
         ≡ run_from (setting (rules_of graph.now) graph.now.names cover.now opening.now) [] lines.old) }
 {
-    let mut run = Run::open(alloc, graph, cover, opening)?;
+    let mut run = Run::open(alloc, graph, cover, directory, opening)?;
     while let Some(line) = lines.first() {
         if !line.begins_with_digit() {
             break;

@@ -26,7 +26,7 @@ use std::alloc::Global;
 /// The verdict over the lines behind the entries of the run.
 pub(crate) fn check_ends(
     alloc: Global,
-    run: &Run<'_>,
+    run: &Run<'_, '_>,
     lines: &mut Lines<'_>,
 ) -> Result<Verdict, NoMemory>
     requires { IsSound run.now }
@@ -44,7 +44,7 @@ pub(crate) fn check_ends(
 }
 
 // The line of the site with this number, without its end.
-fn line_of_site(alloc: Global, run: &Run<'_>, i: usize) -> Result<Vec<u8>, NoMemory>
+fn line_of_site(alloc: Global, run: &Run<'_, '_>, i: usize) -> Result<Vec<u8>, NoMemory>
     requires sound { IsSound run.now }
     requires site { i < length run.now.cover.now.names }
     ensures { let G = rules_of run.now.graph.now in IfOk result (λ text. text.items
@@ -58,7 +58,7 @@ fn line_of_site(alloc: Global, run: &Run<'_>, i: usize) -> Result<Vec<u8>, NoMem
 // The verdict over the lines behind those of the sites, the first of this number.
 fn check_last(
     alloc: Global,
-    run: &Run<'_>,
+    run: &Run<'_, '_>,
     number: u32,
     lines: &mut Lines<'_>,
 ) -> Result<Verdict, NoMemory>

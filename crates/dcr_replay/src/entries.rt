@@ -5,6 +5,7 @@ ghost use Rattle.dcr_graph.specs.GraphValue.{rules_of};
 ghost use Rattle.dcr_graph.specs.Projection.{HasRoom};
 ghost use Rattle.dcr_journal.specs.Run.{stepped_by};
 ghost use Rattle.dcr_journal.specs.declared.call.Entry.{Entry};
+ghost use Rattle.dcr_line.specs.DirectoryModel.{named};
 ghost use Rattle.dcr_line.specs.Fits.{FitsEntry};
 ghost use Rattle.dcr_replay.specs.Cut.{line_of};
 ghost use Rattle.dcr_replay.specs.EntryLines.{Setting, is_done, is_faulted, entry_after, is_answered, answer_after};
@@ -19,7 +20,7 @@ use crate::tracked::{Tracked, tracked_by_each};
 use crate::verdict::Wrong;
 use dcr_graph::{Graph, Marking};
 use dcr_journal::{Call, Entry, Outcome};
-use dcr_line::{read_entry, write_entry};
+use dcr_line::{Directory, read_entry, write_entry};
 use dcr_mark::Plain;
 use dcr_proj::Cover;
 use dcr_set::NoMemory;
@@ -34,9 +35,10 @@ const MOST_SESSIONS: usize = 1024;
 /// A history under check: the engine at the marking after the entries that were read, and what the next one
 /// must say of itself.
 #[derive(Drop)]
-pub(crate) struct Run<'g> {
+pub(crate) struct Run<'g, 'n> {
     pub graph: &'g Graph,
     pub cover: &'g Cover,
+    pub directory: &'g Directory<'n>,
     pub tracked: Vec<Tracked>,
     pub plain: Plain<'g>,
     // How many entries each session has.
@@ -46,14 +48,16 @@ pub(crate) struct Run<'g> {
     pub faulted: bool,
 }
 
-impl<'g> Run<'g> {
+impl<'g, 'n> Run<'g, 'n> {
     /// No entry yet.
     pub(crate) fn open(
         alloc: Global,
         graph: &'g Graph,
         cover: &'g Cover,
+        directory: &'g Directory<'n>,
         opening: &Marking,
-    ) -> Result<Run<'g>, NoMemory>
+    ) -> Result<Run<'g, 'n>, NoMemory>
+        requires directory { directory.now ≡ named cover.now.names graph.now.names }
         requires rooms { All (λ set. length set ≡ length graph.now.names) cover.now.owned }
         requires cover { IsCover cover.now }
         requires opening { HasRoom (length graph.now.names) opening.now }
@@ -66,6 +70,7 @@ impl<'g> Run<'g> {
         Ok(Run {
             graph,
             cover,
+            directory,
             tracked,
             plain,
             made,
@@ -108,7 +113,7 @@ impl<'g> Run<'g> {
         if self.faulted || self.len >= MOST_ENTRIES {
             return None;
         }
-        let (place, entry) = read_entry(line.whole()?, self.graph, self.cover)?;
+        let (place, entry) = read_entry(line.whole()?, self.directory)?;
         let made = *self.made.get(entry.session as usize)?;
         if place != self.len || entry.seq != made {
             return None;

@@ -6,7 +6,7 @@ ghost use Rattle.dcr_replay.specs.HeadLines.{first_text, first_behind, version_a
 
 use crate::lines::{Lines, behind};
 use dcr_graph::{Graph, Marking};
-use dcr_line::read_mark;
+use dcr_line::{Directory, read_mark};
 use dcr_nest::{Nested, Version};
 use dcr_proj::Cover;
 use dcr_reading::{read_cover_text, read_graph_text};
@@ -62,12 +62,12 @@ pub(crate) fn read_cover(
 }
 
 /// The marking of the atoms that the first line tells. None exactly where it tells none.
-pub(crate) fn read_opening(lines: &Lines<'_>, graph: &Graph) -> Option<Marking>
-    ensures opening { result ≡ opening_at graph.now.names lines.now }
-    ensures room { IfSome result (HasRoom (length graph.now.names)) }
+pub(crate) fn read_opening(lines: &Lines<'_>, directory: &Directory<'_>) -> Option<Marking>
+    ensures opening { result ≡ opening_at directory.now.atoms lines.now }
+    ensures room { IfSome result (HasRoom (length directory.now.atoms)) }
 {
     let text = first_behind(lines, b"open ")?;
-    let mark = read_mark(text, graph)?;
+    let mark = read_mark(text, directory)?;
     Some(Marking {
         executed: mark.executed,
         pending: mark.pending,

@@ -7,5 +7,5 @@ abbrev pub invariant-loop-i : goal.invariant-loop-i
 invariant-loop-i l = record {
   len : length l.places.items ≡ l.count;
   some : 0 < l.count;
-  numbers : HasNumbers l.places.items (map (λ text. text.now) (take l.i l.texts));
+  numbers : HasNumbers l.start l.places.items (map (λ text. text.now) (take l.i l.texts));
 }

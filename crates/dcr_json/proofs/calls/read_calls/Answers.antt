@@ -7,9 +7,9 @@ use Rattle.dcr_json.proofs.calls.read_calls.Goals as goal
 
 pub returns-in_default : goal.returns-in_default
 returns-in_default c =
-    from_stop (call_told c.args.cover.now.names c.args.graph.now.names c.args.k) c.args.texts.now c.loop-j.j c.get.result.now c.loop-j.calls.items
+    from_stop (call_told c.args.directory.now.sites c.args.directory.now.atoms c.args.k) c.args.texts.now c.loop-j.j c.get.result.now c.loop-j.calls.items
     (CallLine c.args.k c.loop-j.j) c.get.ensures c.loop-j.invariant.read
-    (ap (call_told c.args.cover.now.names c.args.graph.now.names c.args.k c.loop-j.j) (sym c.as_bytes.ensures.value)
+    (ap (call_told c.args.directory.now.sites c.args.directory.now.atoms c.args.k c.loop-j.j) (sym c.as_bytes.ensures.value)
     ∙ ap (found_or (CallLine c.args.k c.loop-j.j)) (sym c.in_default.ensures.call))
 
 pub loop-j-preserved : goal.loop-j-preserved
@@ -20,9 +20,9 @@ loop-j-preserved c =
     let reserved = c.loop-j.invariant.reserved in
     record {
       read =
-          from_step (call_told c.args.cover.now.names c.args.graph.now.names c.args.k) c.args.texts.now c.loop-j.j c.get.result.now c.loop-j.calls.items
+          from_step (call_told c.args.directory.now.sites c.args.directory.now.atoms c.args.k) c.args.texts.now c.loop-j.j c.get.result.now c.loop-j.calls.items
           c.in-Some.call c.get.ensures c.loop-j.invariant.read
-          (ap (call_told c.args.cover.now.names c.args.graph.now.names c.args.k c.loop-j.j) (sym c.as_bytes.ensures.value)
+          (ap (call_told c.args.directory.now.sites c.args.directory.now.atoms c.args.k c.loop-j.j) (sym c.as_bytes.ensures.value)
           ∙ ap (found_or (CallLine c.args.k c.loop-j.j)) (sym c.in-Some.ensures.call))
           ∙ ap Ok (sym c.push_reserved.ensures.items);
       reached = search rules;
@@ -30,4 +30,4 @@ loop-j-preserved c =
     }
 
 pub returns : goal.returns
-returns c = from_end (call_told c.args.cover.now.names c.args.graph.now.names c.args.k) c.args.texts.now c.loop-j.j (Ok c.loop-j.calls.items) (omega arith) c.loop-j.invariant.read
+returns c = from_end (call_told c.args.directory.now.sites c.args.directory.now.atoms c.args.k) c.args.texts.now c.loop-j.j (Ok c.loop-j.calls.items) (omega arith) c.loop-j.invariant.read

@@ -7,7 +7,7 @@ use Rattle.dcr_line.proofs.mark.read_names.Goals as goal
 
 pub loop-name-init : goal.loop-name-init
 loop-name-init c =
-    let names = c.args.graph.now.names in
+    let names = c.args.directory.now.atoms in
     record {
       room = c.new-set.ensures.room ∙ c.atoms.ensures.atoms;
       read =
@@ -18,10 +18,10 @@ loop-name-init c =
 
 pub insert-requires : goal.insert-requires
 insert-requires c =
-    let below = (name_found c.args.graph.now.names c.in-Some.name.now c.in_ok-e.e (low_found c.loop-name.low c.in_ok-e.e (number_of c.args.graph.now.names c.in-Some.name.now) (sym c.in_ok-e.was ∙ c.atom_from.ensures)).0).0 in
+    let below = (name_found c.args.directory.now.atoms c.in-Some.name.now c.in_ok-e.e (low_found c.loop-name.low c.in_ok-e.e (number_of c.args.directory.now.atoms c.in-Some.name.now) (sym c.in_ok-e.was ∙ c.atom_from.ensures)).0).0 in
     omega (arith, c.loop-name.invariant.room)
 
 pub overflow_add-low : goal.overflow_add-low
 overflow_add-low c =
-    let below = (name_found c.args.graph.now.names c.in-Some.name.now c.in_ok-e.e (low_found c.loop-name.low c.in_ok-e.e (number_of c.args.graph.now.names c.in-Some.name.now) (sym c.in_ok-e.was ∙ c.atom_from.ensures)).0).0 in
+    let below = (name_found c.args.directory.now.atoms c.in-Some.name.now c.in_ok-e.e (low_found c.loop-name.low c.in_ok-e.e (number_of c.args.directory.now.atoms c.in-Some.name.now) (sym c.in_ok-e.was ∙ c.atom_from.ensures)).0).0 in
     omega (arith, c.atoms.ensures.most, c.e.view_is)

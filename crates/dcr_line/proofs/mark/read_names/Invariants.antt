@@ -6,6 +6,6 @@ use Rattle.dcr_line.proofs.mark.read_names.Given as goal
 
 abbrev pub invariant-loop-name : goal.invariant-loop-name
 invariant-loop-name l = record {
-  room : length l.set ≡ length l.graph.names;
-  read : more_from l.graph.names l.low l.set l.name-iterator ≡ listed_in l.graph.names l.text;
+  room : length l.set ≡ length l.directory.atoms;
+  read : more_from l.directory.atoms l.low l.set l.name-iterator ≡ listed_in l.directory.atoms l.text;
 }

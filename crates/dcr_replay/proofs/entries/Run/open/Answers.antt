@@ -13,6 +13,7 @@ returns-clause-sound c = record {
   graph = c.in_ok-plain.ensures.graph;
   rooms = c.requires.rooms;
   is_cover = c.requires.cover;
+  directory = c.requires.directory;
   tracked = c.in_ok-tracked.ensures;
   sessions = ap (λ items. length items) (zeros c) ∙ length-replicate {A = ℕ} 1024 0;
   most = omega arith;
