@@ -1,2 +1,4 @@
+pub mod DiskLemmas
+pub mod FileLemmas
 pub mod Interruptions
 pub mod KnownBytes

@@ -1,5 +1,7 @@
 pub mod Asked
 pub mod Count
+pub mod Disk
+pub mod FileDisk
 pub mod ReadStop
 pub mod Status
 pub mod StdSink

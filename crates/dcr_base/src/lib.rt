@@ -2,8 +2,12 @@
 //! write them to the end, and the status that a run ends with.
 #![tactic(auto)]
 
+mod disk;
 mod failed;
+mod file_disk;
+mod gate;
 mod once;
+mod overwrite;
 mod reading;
 mod sink;
 mod source;
@@ -12,8 +16,12 @@ mod std_sink;
 mod std_source;
 mod writing;
 
+pub use disk::Disk;
 pub use failed::Failed;
+pub use file_disk::FileDisk;
+pub use gate::{Gate, OpenGate};
 pub use once::{ReadOnce, WriteOnce};
+pub use overwrite::{read_from, write_over};
 pub use reading::{ReadStop, read_all};
 pub use sink::Sink;
 pub use source::Source;

@@ -1,5 +1,8 @@
 pub mod CallLog
 pub mod CallsModel
+pub mod DiskImages
+pub mod DiskLog
+pub mod MemDiskView
 pub mod SourceState
 pub mod MemSourceModel
 pub mod SinkState

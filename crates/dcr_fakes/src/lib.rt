@@ -1,10 +1,15 @@
-//! A source and a sink in memory, for tests. They tell all that they hold, and fail at the calls
+//! A source, a sink and a disk in memory, for tests. They tell all that they hold, and fail at the calls
 //! that a test names.
 #![tactic(auto)]
 
 mod calls;
+mod disk_call;
+mod image;
+mod mem_disk;
 mod mem_sink;
 mod mem_source;
 
+pub use disk_call::DiskCall;
+pub use mem_disk::MemDisk;
 pub use mem_sink::MemSink;
 pub use mem_source::MemSource;

@@ -14,7 +14,7 @@ use dcr_graph::{Graph, Kind, Marking, SiteMark};
 use dcr_journal::{Closed, Journal, MarkList};
 use dcr_nest::{Nested, Version};
 use dcr_proj::{Cover, project};
-use dcr_report::{ReportStop, write_end, write_report, write_site, write_verdict};
+use dcr_report::{ReportStop, case_digest, write_end, write_report, write_site, write_verdict};
 use dcr_set::{EventId, EventSet, SiteId};
 use dcr_site::Site;
 use std::alloc::Global;
@@ -32,6 +32,18 @@ end 0
 // The first bytes of the report of a graph with a cancel.
 const CANCEL: &str =
     "dcr 2\ngraph {\"events\":[{\"label\":\"a\",\"name\":\"a\"},{\"label\":\"b\",\"name\":\"b\"},{\"label\":\"c\",\"name\":\"c\"}],\"relations\":[[\"response\",\"a\",\"b\"],[\"cancel\",\"c\",\"b\"]]}\ncover ";
+
+// What sha256sum prints of lines 2 to 4 of `NO_SESSION`.
+const NO_SESSION_DIGEST: [u8; 32] = [
+    0x09, 0xaa, 0x6f, 0x32, 0x6a, 0x8c, 0x08, 0x2a, 0xbc, 0x68, 0x85, 0x95, 0xad, 0x2a, 0x86, 0xff,
+    0xee, 0xcf, 0x77, 0x2f, 0xc9, 0x66, 0x3e, 0x0e, 0x63, 0x71, 0x91, 0xa4, 0x2c, 0x52, 0xc6, 0xf5,
+];
+
+// And of lines 2 to 4 of the hospital's report.
+const HOSPITAL_DIGEST: [u8; 32] = [
+    0x3e, 0x18, 0x53, 0x41, 0xc1, 0x70, 0xeb, 0x43, 0xd3, 0x92, 0x98, 0x17, 0x63, 0xb1, 0x10, 0x09,
+    0xc8, 0x71, 0x46, 0x7a, 0x83, 0x02, 0x19, 0x96, 0xff, 0x2d, 0xb6, 0x47, 0x6e, 0x6c, 0xf1, 0xc5,
+];
 
 #[derive(Debug, Drop)]
 struct NoCase;
@@ -267,6 +279,25 @@ fn no_session(rt: HostRuntime) -> Result<(), Fail> {
     let case = set_up(alloc, Version::V1, &[("a", None, "a")], &[], &[("x", "a")])?;
     let report = report_of(alloc, &case)?;
     assert_eq!(rt; report.as_slice(), NO_SESSION.as_bytes());
+    Ok(())
+}
+
+// The digest of a case in which every atom is included at opening.
+fn digest_of(alloc: Global, case: &Setting) -> Result<[u8; 32], Fail>
+    requires flattening { IsFlattening case.now.nested case.now.graph }
+    requires rooms { All (λ set. length set ≡ length case.now.graph.names) case.now.cover.owned }
+{
+    let opening = all_included(&case.graph);
+    Ok(case_digest(alloc, &case.nested, &case.graph, &case.cover, &opening)?)
+}
+
+#[test]
+fn the_digest_is_of_the_lines_of_the_case(rt: HostRuntime) -> Result<(), Fail> {
+    let alloc = rt.alloc();
+    let case = set_up(alloc, Version::V1, &[("a", None, "a")], &[], &[("x", "a")])?;
+    assert!(rt; digest_of(alloc, &case)? == NO_SESSION_DIGEST);
+    let case = hospital(alloc)?;
+    assert!(rt; digest_of(alloc, &case)? == HOSPITAL_DIGEST);
     Ok(())
 }
 

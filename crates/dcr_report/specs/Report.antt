@@ -28,14 +28,21 @@ abbrev pub version_text : Version → List ℕ
 version_text V1 = codes "dcr 1"
 version_text V2 = codes "dcr 2"
 
--- the version, the graph, the cover, and the opening marking over all atoms, which have these names
-abbrev pub head_lines : Nest → Owners → List (List ℕ) → Marking → List (List ℕ)
-head_lines N C names M =
-    version_text N.version
-    ∷ (codes "graph " ++ graph_text N)
+-- the graph, the cover, and the opening marking over all atoms, which have these names
+abbrev pub case_lines : Nest → Owners → List (List ℕ) → Marking → List (List ℕ)
+case_lines N C names M =
+    (codes "graph " ++ graph_text N)
     ∷ (codes "cover " ++ cover_text names C)
     ∷ (codes "open " ++ mark_text names M.executed M.pending M.included)
     ∷ []
+
+-- the version, and the case
+abbrev pub head_lines : Nest → Owners → List (List ℕ) → Marking → List (List ℕ)
+head_lines N C names M = version_text N.version ∷ case_lines N C names M
+
+-- The lines of a case: what its runs begin with, whatever their sessions. The atoms have the names of their nodes.
+abbrev pub case_text : Nest → Owners → Marking → List ℕ
+case_text N C M = lines_text (case_lines N C (of_atoms (parents_of N.nodes) (names_of N.nodes)) M)
 
 -- a line for each entry, the first at this place
 unfoldable pub entry_lines : List (List ℕ) → List (List ℕ) → ℕ → List Entry → List (List ℕ)

@@ -2,9 +2,11 @@
 //! of the sites at the end, and the verdict.
 #![tactic(auto)]
 
+mod digest;
 mod lines;
 mod report;
 mod write;
 
+pub use digest::case_digest;
 pub use report::{ReportStop, write_report};
 pub use write::{write_end, write_site, write_verdict};

@@ -7,7 +7,7 @@ ghost use Rattle.dcr_graph.specs.declared.marking.SiteMark.{SiteMark};
 ghost use Rattle.dcr_proj.specs.CoverValue.{atoms_of};
 ghost use Rattle.dcr_line.specs.Line.{entry_text};
 ghost use Rattle.dcr_line.specs.Fits.{FitsEntry};
-ghost use Rattle.dcr_report.specs.Report.{line, lines_text, version_text, head_lines, entry_lines, site_text, site_lines, verdict_text, end_lines};
+ghost use Rattle.dcr_report.specs.Report.{line, lines_text, version_text, case_lines, head_lines, entry_lines, site_text, site_lines, verdict_text, end_lines};
 ghost use Rattle.dcr_report.specs.FitsClosed.{FitsClosed};
 ghost use Rattle.dcr_report.specs.Passed.{Passes, StopsWithin};
 
@@ -15,7 +15,7 @@ use crate::ReportStop;
 use crate::write::{write_end, write_site, write_verdict};
 use dcr_base::{Sink, write_all};
 use dcr_canon::{cover_text, graph_text};
-use dcr_graph::{Graph, Name, SiteMark};
+use dcr_graph::{Graph, Marking, Name, SiteMark};
 use dcr_journal::{Closed, Entry, Journal, MarkList};
 use dcr_line::{write_entry, write_marking};
 use dcr_nest::{Nested, Version};
@@ -66,10 +66,28 @@ fn put_head(
         ++ lines_text (head_lines nested.now cover.now graph.now.names closed.now.opening)) }
 {
     put_line(b"dcr ", version(nested.version()), held)?;
+    put_case(alloc, nested, graph, cover, &closed.opening, held)
+}
+
+/// Adds the lines of a case: its graph, its cover and its opening marking.
+pub(crate) fn put_case(
+    alloc: Global,
+    nested: &Nested,
+    graph: &Graph,
+    cover: &Cover,
+    opening: &Marking,
+    held: &mut Vec<u8>,
+) -> Result<(), NoMemory>
+    requires rooms { atoms_of cover.now.owned ≡ length graph.now.names }
+    requires fits { FitsAtoms (length graph.now.names)
+        opening.now.executed opening.now.pending opening.now.included }
+    ensures { OnOk result (held.new.items ≡ held.old.items
+        ++ lines_text (case_lines nested.now cover.now graph.now.names opening.now)) }
+{
     put_line(b"graph ", &graph_text(alloc, nested)?, held)?;
     put_line(b"cover ", &cover_text(alloc, graph, cover)?, held)?;
     put(b"open ", held)?;
-    write_marking(&closed.opening, graph, held)?;
+    write_marking(opening, graph, held)?;
     put(b"\n", held)
 }
 

@@ -6,6 +6,8 @@ mod adapters;
 #[cfg(test)]
 mod base;
 #[cfg(test)]
+mod disk;
+#[cfg(test)]
 mod fakes;
 #[cfg(test)]
 mod pool;

@@ -1,0 +1,11 @@
+pub mod AppendLemmas
+pub mod AppendRun
+pub mod DurableLemmas
+pub mod FindLemmas
+pub mod OpenLemmas
+pub mod PartLemmas
+pub mod RecordLemmas
+pub mod RenewLemmas
+pub mod RenewRun
+pub mod StaysLemmas
+pub mod UniqueLemmas

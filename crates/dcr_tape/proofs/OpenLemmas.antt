@@ -1,0 +1,111 @@
+-- What an opening did, exit by exit.
+use Rattle.std.proofs.Common.{◌≡◌, ◌≢◌, IsTrue, ℕ, ◌+◌, ◌*◌, ◌≤◌, List, [], ◌∷◌, ◌++◌, length, refl, sym, ◌∙◌, ap, subst, arith}
+use Rattle.std.proofs.lemmas.List.{append-nil, drop_all, nil_from_length, take_all, length-append}
+use Rattle.dcr_base.specs.Disk.{DiskView, Stays, Wrote, Durable, IsSteady, bytes_at, written}
+use Rattle.dcr_tape.specs.Opening.{Opened, Refused, IsCause, most_records}
+use Rattle.dcr_tape.specs.Tape.{Part, Holds, as_new, part_bytes, header_bytes, name_text, zeros}
+use Rattle.dcr_tape.specs.declared.cause.TapeCause.{TapeCause}
+use Rattle.dcr_tape.specs.declared.cause.TapeCause.TheVariants.{DiskFault}
+use Rattle.dcr_tape.specs.declared.entry.TapeEntry.{TapeEntry}
+use Rattle.dcr_tape.specs.declared.width.Width.TheVariants.{Twelve}
+use Rattle.dcr_tape.proofs.DurableLemmas.{honest_as}
+use Rattle.dcr_tape.proofs.RenewLemmas.{part_header, part_records, part_shut, part_long}
+use Rattle.dcr_tape.proofs.StaysLemmas.{stays_trans, stays_leaves, stays_steady}
+
+-- a fault before anything was written
+pub refused_fault : (old new : DiskView) (digest : List ℕ) (cause : TapeCause) → cause ≡ DiskFault → Stays old new → Refused old new digest cause
+refused_fault old new digest cause is stays = subst (Refused old new digest) (sym is) (record {
+  before = old.content;
+  was = λ _. refl;
+  stands = tt;
+  shown = λ none. absurd none;
+  kept = λ _ told. stays.told told;
+  any_moment = λ honest _. stays_leaves old new stays honest;
+})
+
+-- a fault while an empty disk was made a tape
+pub refused_making : (old mid new : DiskView) (digest : List ℕ) (cause : TapeCause) → cause ≡ DiskFault → Stays old mid → length mid.content ≡ 0 → Refused old new digest cause
+refused_making old mid new digest cause is stays empty = subst (Refused old new digest) (sym is) (record {
+  before = old.content;
+  was = λ _. refl;
+  stands = tt;
+  shown = λ none. absurd none;
+  kept = λ some told. absurd (some (nothing told));
+  any_moment = λ honest some. absurd (some (nothing (old.honest_tells honest)));
+})
+  where
+    nothing : IsTrue old.told → old.content ≡ []
+    nothing told = sym ((stays.told told).1) ∙ nil_from_length mid.content empty
+
+-- a cause that was found by reading
+pub refused_reading : (old mid new : DiskView) (digest : List ℕ) (cause : TapeCause) → Stays old mid → Stays mid new → IsTrue mid.told → length mid.content ≢ 0
+    → IsCause digest mid.content cause → Refused old new digest cause
+refused_reading old mid new digest cause before after told some is = record {
+  before = mid.content;
+  was = λ was_told. sym ((before.told was_told).1);
+  stands = is;
+  shown = λ _. ((after.told told).0, (λ none. some (ap length none)), (after.told told).1);
+  kept = λ _ _. after.told told;
+  any_moment = λ honest _. stays_leaves old new (stays_trans old mid new before after) honest;
+}
+
+-- a tape that was read
+pub opened_reading : (old synced mid new : DiskView) (digest : List ℕ) (part : Part) (entries : List TapeEntry)
+    → Stays old synced → Durable synced → Stays synced mid → Stays mid new → IsTrue mid.told → length mid.content ≢ 0
+    → part.digest ≡ digest → Holds mid.content part entries → length entries ≤ most_records → Opened old new digest part entries
+opened_reading old synced mid new digest part entries first durable second third told some same holds few =
+    let before = stays_trans old synced mid first second in
+    let kept = third.told told in
+    record {
+      before = mid.content;
+      was = λ was_told. sym ((before.told was_told).1);
+      told = kept.0;
+      made = λ none. absurd (some (ap length none));
+      kept = λ _. kept.1;
+      same_case = same;
+      holds = subst (λ c. Holds c part entries) (sym kept.1) holds;
+      few = few;
+      steady = λ honest. stays_steady synced new durable (stays_trans synced mid new second third) (honest_as old synced first.honest honest);
+      any_moment = λ honest _. stays_leaves old new (stays_trans old mid new before third) honest;
+    }
+
+-- ---- making
+
+written_new : (piece content : List ℕ) → content ≡ [] → written 0 piece content ≡ piece
+written_new piece content empty =
+    ap (written 0 piece) empty ∙ ap (λ (l : List ℕ). piece ++ l) (drop_all (0 + length piece) [] (omega arith)) ∙ append-nil piece
+
+length-part : (digest : List ℕ) → length digest ≡ 32 → length (part_bytes digest []) ≡ 65 + 12 * 0
+length-part digest long = omega (arith, length-append (header_bytes digest) (0 ∷ []), length-append (name_text 2) (digest ++ zeros 24), length-append digest (zeros 24), long)
+
+-- a tape of no entries
+pub made_holds : (digest : List ℕ) → length digest ≡ 32 → Holds (part_bytes digest []) (record { start = 0; width = Twelve; digest = digest }) []
+made_holds digest long =
+    let c : List ℕ = part_bytes digest [] in
+    let there : bytes_at c 0 (65 + 12 * 0) ≡ part_bytes digest [] = take_all (65 + 12 * 0) c (omega (arith, length-part digest long)) in
+    record {
+      in_force = record { begins = as_new (record { start = refl; width = refl; header = part_header c 0 digest [] long there }); long = part_long c 0 digest [] long there };
+      has_records = part_records c 0 digest [] long there;
+      shut = part_shut c 0 digest [] long there;
+    }
+
+pub opened_making : (old synced mid new : DiskView) (digest : List ℕ) → length digest ≡ 32
+    → Stays old synced → Durable synced → Stays synced mid → IsTrue mid.told → length mid.content ≡ 0
+    → Wrote 0 (part_bytes digest []) mid new → (IsSteady mid → IsSteady new)
+    → Opened old new digest (record { start = 0; width = Twelve; digest = digest }) []
+opened_making old synced mid new digest long first durable second told empty wrote steady =
+    let before = stays_trans old synced mid first second in
+    let none : mid.content ≡ [] = nil_from_length mid.content empty in
+    let made : new.content ≡ part_bytes digest [] = wrote.holds ∙ written_new (part_bytes digest []) wrote.content (sym (wrote.was told) ∙ none) in
+    record {
+      before = mid.content;
+      was = λ was_told. sym ((before.told was_told).1);
+      told = wrote.told;
+      made = λ _. made;
+      kept = λ some. absurd (some none);
+      same_case = refl;
+      holds = subst (λ c. Holds c (record { start = 0; width = Twelve; digest = digest }) []) (sym made) (made_holds digest long);
+      few = omega arith;
+      steady = λ honest. steady (stays_steady synced mid durable second (honest_as old synced first.honest honest));
+      any_moment = λ _ some. absurd (some none);
+    }
