@@ -51,8 +51,9 @@ impl Sites {
     ghost use Rattle.dcr_graph.specs.declared.marking.Marking.{Marking as Marks};
     ghost use Rattle.dcr_journal.specs.Answer.{answer};
     ghost use Rattle.dcr_journal.specs.Run.{IsInRange, stepped_by, marks_at};
-    ghost use Rattle.dcr_proj.specs.CoverValue.{IsCovered};
-    ghost use Rattle.dcr_site.specs.Together.{AllStand};
+    ghost use Rattle.dcr_proj.specs.CoverValue.{IsCovered, atoms_of};
+    ghost use Rattle.dcr_run.specs.SitesModel.{alphabets_in};
+    ghost use Rattle.dcr_site.specs.Together.{AllStand, AreOver};
 
     /// The sites of the cover, which is one of the graph's atoms, at the opening marking.
     pub fn open(
@@ -73,6 +74,32 @@ impl Sites {
             network,
             members: opened.members,
         })
+    }
+
+    /// Of sites that were opened before, with the network of their alphabets.
+    pub fn of(network: Network, members: Vec<Site>) -> Sites
+        requires network { network ≡ alphabets_in members.items }
+        requires over { AreOver (atoms_of network) members.items }
+        ensures atoms { result.atoms ≡ atoms_of network }
+        ensures sites { result.sites ≡ members.items }
+    {
+        Sites { network, members }
+    }
+
+    /// The network and the sites.
+    pub fn into_parts(self) -> (Network, Vec<Site>)
+        ensures network { result.0 ≡ alphabets_in self.sites }
+        ensures sites { result.1.items ≡ self.sites }
+    {
+        let Sites { network, members } = self;
+        (network, members)
+    }
+
+    /// The sites, in order.
+    pub fn members(&self) -> &[Site]
+        ensures { result.now ≡ self.now.sites }
+    {
+        self.members.as_slice()
     }
 
     /// What the call is answered: an execution, a look and the question what is enabled by the site that is

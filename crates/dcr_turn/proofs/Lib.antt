@@ -4,4 +4,4 @@ mod Keeping
 mod Visiting
 mod Passing
 mod GivingOut
-mod Covered
+pub mod Covered

@@ -19,5 +19,6 @@ pub use front::Front;
 pub use guard::TurnGuard;
 pub use laws::covered_fronts_are_enough;
 pub use name::{Keeps, TurnName};
+pub use opening::TurnReady;
 pub use pass::Pass;
 pub use turn::{Turn, TurnRefused};

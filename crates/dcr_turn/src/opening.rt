@@ -1,4 +1,4 @@
-ghost use Rattle.std.specs.Prelude.{◌≡◌, ◌≤◌, [], length, IfOk, OnOk};
+ghost use Rattle.std.specs.Prelude.{◌≡◌, ◌≤◌, [], length, IfOk, IfErr, OnOk};
 ghost use Rattle.dcr_turn.specs.FrontValue.{new_fronts};
 ghost use Rattle.dcr_turn.specs.PassValue.{new_passes};
 ghost use Rattle.dcr_turn.specs.Records.{all_know, everyone, journal_and_sessions};
@@ -6,50 +6,96 @@ ghost use Rattle.dcr_turn.specs.Records.{all_know, everyone, journal_and_session
 use crate::desk::Desk;
 use crate::order::Order;
 use crate::records::Records;
-use crate::{Front, Pass, TurnBlank, TurnName};
+use crate::turn::Locked;
+use crate::{Front, Keeps, Pass, Turn, TurnBlank, TurnName, TurnRefused};
 use dcr_journal::Journal;
+use dcr_lock::{Row, RowRefused};
 use dcr_set::{NoMemory, SiteId};
 use std::alloc::Global;
 
-/// The parts of a turn that is being opened.
-pub(crate) struct Parts<N: TurnName> {
-    pub(crate) order: Order<N>,
-    pub(crate) desk: Desk<N>,
-    pub(crate) fronts: Vec<Front<N>>,
-    pub(crate) passes: Vec<Pass<N>>,
+/// A turn whose memory was taken, but for its lock's: an empty journal, and nothing kept beside it yet.
+#[derive(Drop)]
+pub struct TurnReady<N: TurnName> {
+    order: Order<N>,
+    desk: Desk<N>,
+    ghost empty: { desk.entries ≡ [] },
+    ghost alone: { desk.enlisted ≡ [] },
 }
 
-/// The blank's turn under its name, with an empty journal of this capacity.
-pub(crate) fn opened<N: TurnName>(
+impl<N: TurnName> TurnReady<N> {
+    ghost use Rattle.std.specs.Prelude.{◌≡◌, ◌≤◌, [], length, IfOk, IfErr};
+
+    /// The turn of a blank, with an empty journal of this capacity, 200,000 at most. With it come the fronts of its sites
+    /// and the passes of its sessions, in order; they have seen and done nothing. `NoMemory` where memory could not be
+    /// had.
+    pub fn new(
+        alloc: Global,
+        blank: TurnBlank,
+        capacity: u32,
+    ) -> Result<(TurnReady<N>, Vec<Front<N>>, Vec<Pass<N>>), NoMemory>
+        requires turn { blank ≡ N.turn }
+        requires capacity { capacity ≡ N.capacity }
+        requires most { capacity ≤ 200000 }
+        ensures fronts { IfOk result (λ opened. opened.1.items ≡ new_fronts (length N.turn.alphabets)) }
+        ensures passes { IfOk result (λ opened. opened.2.items ≡ new_passes N.turn.sessions) }
+    {
+        let TurnBlank {
+            table,
+            seat,
+            sites,
+            sessions,
+        } = blank;
+        let journal = Journal::open(alloc, capacity)?;
+        let order = Order::new(table);
+        let mut records = Records::new(seat);
+        let fronts = first_fronts(alloc, &order, &mut records, sites)?;
+        let passes = first_passes(alloc, &order, &mut records, sessions)?;
+        let ready = TurnReady {
+            order,
+            desk: Desk::new(journal, records),
+        };
+        Ok((ready, fronts, passes))
+    }
+
+    /// Begins the turn with a kept value that stands for no entry. It is refused for want of memory alone; the value
+    /// comes back then.
+    pub fn begin<K: Keeps>(self, alloc: Global, kept: K) -> Result<Turn<K, N>, TurnRefused<K>>
+        requires { K.stands [] kept }
+        ensures { IfErr result (λ refused. refused.kept ≡ kept) }
+    {
+        let TurnReady { order, desk } = self;
+        let row = lay(alloc, Locked { desk, kept })?;
+        Ok(Turn::of(row, order))
+    }
+}
+
+// A row of the one place.
+fn lay<K: Keeps, N: TurnName>(
     alloc: Global,
-    blank: TurnBlank,
-    capacity: u32,
-) -> Result<Parts<N>, NoMemory>
-    requires turn { blank ≡ N.turn }
-    requires capacity { capacity ≡ N.capacity }
-    requires most { capacity ≤ 200000 }
-    ensures entries { IfOk result (λ opened. opened.desk.entries ≡ []) }
-    ensures enlisted { IfOk result (λ opened. opened.desk.enlisted ≡ []) }
-    ensures fronts { IfOk result (λ opened. opened.fronts.items ≡ new_fronts (length N.turn.alphabets)) }
-    ensures passes { IfOk result (λ opened. opened.passes.items ≡ new_passes N.turn.sessions) }
+    locked: Locked<K, N>,
+) -> Result<Row<Locked<K, N>>, TurnRefused<K>>
+    requires enlisted { locked.desk.enlisted ≡ [] }
+    requires kept { K.stands locked.desk.entries locked.kept }
+    ensures one { IfOk result (λ row. row ≡ 1) }
+    ensures refused { IfErr result (λ refused. refused.kept ≡ locked.kept) }
 {
-    let TurnBlank {
-        table,
-        seat,
-        sites,
-        sessions,
-    } = blank;
-    let journal = Journal::open(alloc, capacity)?;
-    let order = Order::new(table);
-    let mut records = Records::new(seat);
-    let fronts = first_fronts(alloc, &order, &mut records, sites)?;
-    let passes = first_passes(alloc, &order, &mut records, sessions)?;
-    Ok(Parts {
-        order,
-        desk: Desk::new(journal, records),
-        fronts,
-        passes,
-    })
+    let room = Vec::with_capacity(alloc, 1);
+    let Ok(mut values) = room else {
+        let Locked { desk: _, kept } = locked;
+        return Err(TurnRefused { kept });
+    };
+    values.push_reserved(locked);
+    let opened = Row::open(alloc, values);
+    let refused = match opened {
+        Ok(row) => return Ok(row),
+        Err(refused) => refused,
+    };
+    let RowRefused { mut values } = refused;
+    let popped = values.pop();
+    let Some(locked) = popped else { unreachable!() };
+    values.destroy_empty();
+    let Locked { desk: _, kept } = locked;
+    Err(TurnRefused { kept })
 }
 
 // The front of each site, taken out of the records of all.

@@ -5,11 +5,10 @@ ghost use Rattle.dcr_turn.specs.FrontValue.{HasMissedNone, new_fronts};
 ghost use Rattle.dcr_turn.specs.PassValue.{HasMadeAll, new_passes};
 
 use crate::desk::Desk;
-use crate::opening::{Parts, opened};
 use crate::order::Order;
-use crate::{Front, Keeps, Pass, TurnBlank, TurnGuard, TurnName};
+use crate::{Front, Keeps, Pass, TurnBlank, TurnGuard, TurnName, TurnReady};
 use dcr_journal::Journal;
-use dcr_lock::{Placed, Row, RowRefused};
+use dcr_lock::{Placed, Row};
 use std::alloc::Global;
 use std::sync::Wait;
 
@@ -58,18 +57,19 @@ impl<K: Keeps, N: TurnName> Turn<K, N> {
         ensures passes { IfOk result (λ opened. opened.2.items ≡ new_passes N.turn.sessions) }
         ensures refused { IfErr result (λ refused. refused.kept ≡ kept) }
     {
-        let parts = opened(alloc, blank, capacity);
-        let Ok(parts) = parts else {
+        let made = TurnReady::new(alloc, blank, capacity);
+        let Ok((ready, fronts, passes)) = made else {
             return Err(TurnRefused { kept });
         };
-        let Parts {
-            order,
-            desk,
-            fronts,
-            passes,
-        } = parts;
-        let row = lay(alloc, Locked { desk, kept })?;
-        Ok((Turn { row, order }, fronts, passes))
+        let turn = ready.begin(alloc, kept)?;
+        Ok((turn, fronts, passes))
+    }
+
+    /// Of a row of one place, under the name of its turn.
+    pub(crate) fn of(row: Row<Locked<K, N>>, order: Order<N>) -> Turn<K, N>
+        requires { row ≡ 1 }
+    {
+        Turn { row, order }
     }
 
     /// Waits until the journal's lock is free, and holds it. No front is enlisted, and the kept value stands for the
@@ -95,6 +95,7 @@ impl<K: Keeps, N: TurnName> Turn<K, N> {
     {
         to.learn(&self.order, from);
     }
+
     /// Waits until the journal's lock is free, and ends the turn, whose fronts and passes are handed in. Each front
     /// begins the journal's list, and no execution after a site's front was of its alphabet. A pass's entries there
     /// are those that it made, and no other session has one. The kept value stands for the list. Takes no memory.
@@ -113,33 +114,4 @@ impl<K: Keeps, N: TurnName> Turn<K, N> {
         desk.meet_all(&order, passes);
         (desk.into_journal(&order), kept)
     }
-}
-
-// A row of the one place.
-fn lay<K: Keeps, N: TurnName>(
-    alloc: Global,
-    locked: Locked<K, N>,
-) -> Result<Row<Locked<K, N>>, TurnRefused<K>>
-    requires enlisted { locked.desk.enlisted ≡ [] }
-    requires kept { K.stands locked.desk.entries locked.kept }
-    ensures one { IfOk result (λ row. row ≡ 1) }
-    ensures refused { IfErr result (λ refused. refused.kept ≡ locked.kept) }
-{
-    let room = Vec::with_capacity(alloc, 1);
-    let Ok(mut values) = room else {
-        let Locked { desk: _, kept } = locked;
-        return Err(TurnRefused { kept });
-    };
-    values.push_reserved(locked);
-    let opened = Row::open(alloc, values);
-    let refused = match opened {
-        Ok(row) => return Ok(row),
-        Err(refused) => refused,
-    };
-    let RowRefused { mut values } = refused;
-    let popped = values.pop();
-    let Some(locked) = popped else { unreachable!() };
-    values.destroy_empty();
-    let Locked { desk: _, kept } = locked;
-    Err(TurnRefused { kept })
 }
