@@ -1,0 +1,5 @@
+pub mod DecisionLemmas
+pub mod AskLemmas
+pub mod CellLemmas
+pub mod RunLemmas
+pub mod StoreLemmas

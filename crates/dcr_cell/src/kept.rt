@@ -1,0 +1,90 @@
+use crate::StoreName;
+use dcr_base::Disk;
+use dcr_journal::{Call, Outcome};
+use dcr_set::{EventId, SiteId};
+use dcr_tape::{DiskFault, Store, TapeEntry};
+use dcr_turn::Keeps;
+use std::marker::PhantomData;
+
+/// What lies beside the journal under its lock: the store of the run.
+#[derive(Drop)]
+pub struct Kept<D, N> {
+    store: Store<D>,
+    of: PhantomData<N>,
+}
+
+impl<D: Disk, N: StoreName<D>> Keeps for Kept<D, N> {
+    ghost use Rattle.dcr_cell.specs.Keeping.{StandsBy};
+
+    ghost stands = { λ J kept. StandsBy D.view D.faults N.cluster N.first J kept.store };
+}
+
+impl<D: Disk, N: StoreName<D>> Kept<D, N> {
+    ghost use Rattle.std.specs.Prelude.{◌≡◌, ◌++◌, ◌∷◌, [], List};
+    ghost use Rattle.dcr_journal.specs.declared.call.Call.TheVariants.{Exec};
+    ghost use Rattle.dcr_journal.specs.declared.call.Outcome.TheVariants.{Done, Faulted};
+    ghost use Rattle.dcr_journal.specs.declared.call.Entry.{Entry};
+    ghost use Rattle.dcr_journal.specs.Run.{HasNoFault, made_by};
+    ghost use Rattle.dcr_cell.specs.ClusterId.{IsCall, answer_after};
+    ghost use Rattle.dcr_cell.specs.Keeping.{IsToldAs, StandsBy};
+    ghost use Rattle.dcr_cell.specs.Stored.{CanKeep, StoreStands};
+
+    /// Of the store of a run that has no entry yet.
+    pub fn new(store: Store<D>) -> Kept<D, N>
+        requires { StoreStands D.view D.faults N.first N.cluster.old [] store }
+        ensures { StandsBy D.view D.faults N.cluster N.first [] result.store }
+    {
+        Kept {
+            store,
+            of: PhantomData,
+        }
+    }
+
+    /// What a call is told that was found to have this outcome. An execution that is to be done is put on the tape,
+    /// where there is one; where that fails it is told as a fault, and the tape is stopped. Takes no memory.
+    pub fn told(&mut self, call: Call, found: Outcome) -> Outcome
+        requires { CanKeep self.old.store }
+        ensures told { (J : List Entry) → StoreStands D.view D.faults N.first N.cluster.old J self.old.store → IsToldAs N.first found result }
+        ensures kept { (J : List Entry) (entry : Entry) → StandsBy D.view D.faults N.cluster N.first J self.old.store → HasNoFault J
+            → IsCall N.cluster call → entry.call ≡ call → entry.seq ≡ made_by entry.session J
+            → found ≡ answer_after N.cluster J call → entry.outcome ≡ result
+            → StandsBy D.view D.faults N.cluster N.first (J ++ entry ∷ []) self.new.store }
+    {
+        if let Call::Exec(site, event) = call {
+            if let Outcome::Done = found {
+                return self.keep(site, event);
+            }
+        }
+        found
+    }
+
+    // Puts an execution on the tape, where there is one: `Done`, or `Faulted` where the tape failed to keep it.
+    fn keep(&mut self, site: SiteId, event: EventId) -> Outcome
+        requires { CanKeep self.old.store }
+        ensures told { (J : List Entry) → StoreStands D.view D.faults N.first N.cluster.old J self.old.store → IsToldAs N.first Done result }
+        ensures kept { (J : List Entry) (entry : Entry) → StoreStands D.view D.faults N.first N.cluster.old J self.old.store → HasNoFault J
+            → entry.call ≡ Exec site event → entry.outcome ≡ result
+            → StoreStands D.view D.faults N.first N.cluster.old (J ++ entry ∷ []) self.new.store }
+    {
+        let tape = match &mut self.store {
+            Store::Off(_) => return Outcome::Done,
+            Store::On(tape) => tape,
+        };
+        let entry = TapeEntry {
+            event: event.0,
+            site: site.0,
+        };
+        match tape.append(entry) {
+            Ok(()) => Outcome::Done,
+            Err(DiskFault) => Outcome::Faulted,
+        }
+    }
+
+    /// The store.
+    pub fn into_store(self) -> Store<D>
+        ensures { result ≡ self.store }
+    {
+        let Kept { store, of: _ } = self;
+        store
+    }
+}

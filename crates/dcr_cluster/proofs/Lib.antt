@@ -1,0 +1,11 @@
+mod RowLemmas
+mod PushLemmas
+mod EnterLemmas
+mod CommitLemmas
+mod NeededLemmas
+mod GatherLemmas
+mod OpeningLemmas
+mod OpenLemmas
+mod PoppingLemmas
+mod StoreLemmas
+mod ClosingLemmas

@@ -1,0 +1,87 @@
+-- What is done under the journal's lock: an entry that was made, and none.
+use Rattle.std.proofs.Common.{◌≡◌, ℕ, ◌+◌, ◌-◌, ◌≤◌, List, [], ◌∷◌, ◌++◌, length, Option, Some, Ok, Err, refl, sym, ap, ◌∙◌, subst, arith}
+use Rattle.std.specs.Prelude.{slice_get}
+use Rattle.dcr_base.specs.Disk.{DiskView}
+use Rattle.dcr_journal.specs.Run.{HasNoFault, made_by}
+use Rattle.dcr_journal.specs.declared.call.Call.{Call}
+use Rattle.dcr_journal.specs.declared.call.Entry.{Entry}
+use Rattle.dcr_journal.specs.declared.call.Outcome.{Outcome}
+use Rattle.dcr_journal.specs.declared.call.Outcome.TheVariants.{Faulted}
+use Rattle.dcr_tape.specs.declared.tape.Store.{Store}
+use Rattle.dcr_turn.specs.GuardValue.{GuardValue, with_entries, with_kept}
+use Rattle.dcr_turn.specs.PassValue.{PassValue}
+use Rattle.dcr_turn.specs.Pushing.{EndsWithoutFault, entry_of}
+use Rattle.dcr_cell.specs.ClusterId.{ClusterId, IsCall, answer_after}
+use Rattle.dcr_cell.specs.Keeping.{IsToldAs, StandsBy}
+use Rattle.dcr_cell.specs.Stored.{CanKeep, StoreStands}
+use Rattle.dcr_cell.specs.declared.kept.Kept.{Kept}
+use Rattle.dcr_cell.proofs.RunLemmas.{no_fault_by_last}
+use Rattle.dcr_cell.proofs.StoreLemmas.{can_keep}
+use Rattle.dcr_cluster.specs.Entering.{Pushed}
+use Rattle.dcr_cluster.specs.declared.halt.Halt.TheVariants.{Full}
+
+-- the last entry, if there is one, is no fault
+pub ends_without : (J : List Entry) (found : Option Entry) → found ≡ slice_get J (length J - 1) → ((entry : Entry) → found ≡ Some entry → ¬ (entry.outcome ≡ Faulted)) → EndsWithoutFault J
+ends_without J found is none entry at = none entry (is ∙ at)
+
+module _ {D N : Type 0} (view : D → DiskView) (faults : D → ℕ) (c : ClusterId) (first : Option (Store D)) (capacity : ℕ) where
+  -- where there is room for no entry more
+  pub pushed_none : (guard : GuardValue (Kept D N)) (pass : PassValue) (call : Call) (found : Outcome) (seen spare : ℕ) → StandsBy view faults c first guard.entries guard.kept.store
+      → EndsWithoutFault guard.entries → pass.front ≡ guard.entries → seen ≡ length pass.front → spare + length guard.entries ≡ capacity → spare ≡ 0
+      → Pushed view faults c first capacity guard guard pass pass call found (Err (Full seen))
+  pushed_none guard pass call found seen spare stands ends met is room full =
+      let many : length pass.front ≡ length guard.entries = ap length met in
+      let none : HasNoFault guard.entries = no_fault_by_last c guard.entries stands.legal ends in
+      record {
+        enlisted = refl;
+        front = met;
+        call_ends = record {
+          entries = refl;
+          shows = (omega arith, omega arith, none);
+          session = refl;
+          made = refl;
+          stands = stands;
+        };
+      }
+
+  -- where there is room for one, an execution may be put on the tape
+  pub may_keep : (guard : GuardValue (Kept D N)) (lent : Kept D N) (spare : ℕ) → StandsBy view faults c first guard.entries guard.kept.store → lent ≡ guard.kept
+      → EndsWithoutFault guard.entries → spare + length guard.entries ≡ capacity → ¬ (spare ≡ 0) → capacity ≤ 200000 → length c.old ≤ 1000000 → CanKeep lent.store
+  may_keep guard lent spare stands as_kept ends room spared most few =
+      subst (λ (k : Kept D N). CanKeep k.store) (sym as_kept)
+      (can_keep view faults first c guard.entries guard.kept.store stands (no_fault_by_last c guard.entries stands.legal ends) (omega arith) few)
+
+  -- what is made where there is room
+  pub pushed_one : (guard after : GuardValue (Kept D N)) (lent kept : Kept D N) (pass then : PassValue) (call : Call) (found told outcome : Outcome) (spare : ℕ)
+      → StandsBy view faults c first guard.entries guard.kept.store → EndsWithoutFault guard.entries → pass.front ≡ guard.entries → pass.made ≡ made_by pass.session guard.entries
+      → IsCall c call → spare + length guard.entries ≡ capacity → ¬ (spare ≡ 0)
+      → lent ≡ guard.kept
+      → ((J : List Entry) → StoreStands view faults first c.old J lent.store → IsToldAs first found told)
+      → ((J : List Entry) (entry : Entry) → StandsBy view faults c first J lent.store → HasNoFault J → IsCall c call → entry.call ≡ call → entry.seq ≡ made_by entry.session J
+      → found ≡ answer_after c J call → entry.outcome ≡ told → StandsBy view faults c first (J ++ entry ∷ []) kept.store)
+      → outcome ≡ told
+      → after ≡ with_entries (with_kept guard kept) (guard.entries ++ entry_of pass call outcome ∷ [])
+      → then.session ≡ pass.session → then.front ≡ after.entries → then.made ≡ pass.made + 1
+      → Pushed view faults c first capacity guard after pass then call found (Ok told)
+  pushed_one guard after lent kept pass then call found told outcome spare stands ends met made is_call room spared as_kept told_as keeps same is session front more =
+      let stood : StandsBy view faults c first guard.entries lent.store = subst (λ (k : Kept D N). StandsBy view faults c first guard.entries k.store) (sym as_kept) stands in
+      let none : HasNoFault guard.entries = no_fault_by_last c guard.entries stands.legal ends in
+      let entry : Entry = entry_of pass call told in
+      let entries : after.entries ≡ guard.entries ++ entry ∷ [] = ap (λ (g : GuardValue (Kept D N)). g.entries) is ∙ ap (λ (o : Outcome). guard.entries ++ entry_of pass call o ∷ []) same in
+      let stored : after.kept ≡ kept = ap (λ (g : GuardValue (Kept D N)). g.kept) is in
+      record {
+        enlisted = ap (λ (g : GuardValue (Kept D N)). g.enlisted) is;
+        front = front;
+        call_ends = record {
+          no_fault = none;
+          room = omega arith;
+          told = told_as guard.entries stood.stored;
+          entries = entries;
+          session = session;
+          made = more;
+          stands = λ answered.
+              let stands_then : StandsBy view faults c first (guard.entries ++ entry ∷ []) kept.store = keeps guard.entries entry stood none is_call refl made answered refl in
+              subst (λ (k : Kept D N). StandsBy view faults c first after.entries k.store) (sym stored)
+              (subst (λ (J : List Entry). StandsBy view faults c first J kept.store) (sym entries) stands_then);
+        };
+      }

@@ -1,0 +1,6 @@
+pub mod FrontRowModel
+pub mod ClusterModel
+pub mod Calls
+pub mod Entering
+pub mod Opening
+pub mod Closing

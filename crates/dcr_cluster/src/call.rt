@@ -1,0 +1,151 @@
+ghost use Rattle.std.specs.Prelude.{◌≡◌, List, [], ◌++◌, length, IfOk, IfErr};
+ghost use Rattle.std.specs.List.{All};
+ghost use Rattle.dcr_journal.specs.declared.call.Entry.{Entry};
+ghost use Rattle.dcr_cell.specs.Asking.{sites_for, sites_of, unasked, Found};
+ghost use Rattle.dcr_cell.specs.ClusterId.{IsCall};
+ghost use Rattle.dcr_cluster.specs.Calls.{AnsweredAfter, HaltedAfter, Made, done_by};
+
+use crate::front_row::FrontRow;
+use crate::push::enter;
+use crate::{Cluster, Halt};
+use dcr_base::{Disk, Gate};
+use dcr_cell::{Cell, StoreName};
+use dcr_journal::{Call, Outcome};
+use dcr_set::{EventId, SiteId};
+use dcr_turn::Pass;
+use std::slice;
+use std::sync::Wait;
+
+impl<D: Disk, G: Gate, N: StoreName<D>> Cluster<D, G, N> {
+    ghost use Rattle.std.specs.Prelude.{◌<◌, ◌≤◌, ◌+◌};
+
+    /// Makes one call of the pass's session, and answers what the graph answers after all entries before it. It takes the
+    /// locks of the sites that it asks in ascending order, each site answering by its own marks, comes by the gate, takes
+    /// the journal's lock and pushes its one entry; an execution that was done is then applied at each site that must
+    /// hear of it. An execution by a site that doesn't own the event takes no site's lock. It waits for each lock, and
+    /// takes no memory.
+    ///
+    /// `Faulted` comes where the execution could be done and the tape failed to keep it; no mark changed then. `Stopped`
+    /// comes exactly where a fault ends the entries before it, else `Full` exactly where they are as many as there may
+    /// be; no entry was made then, and no mark changed.
+    pub fn call<R: Wait>(&self, rt: &R, pass: &mut Pass<N>, call: Call) -> Result<Outcome, Halt>
+        requires { IsCall N.cluster call }
+        ensures answered { IfOk result (λ outcome. (J : List Entry) × AnsweredAfter N.cluster N.first N.capacity J pass.old pass.new call outcome) }
+        ensures halted { IfErr result (HaltedAfter N.cluster N.first N.capacity pass.new.front pass.old pass.new) }
+    {
+        let mut fronts = FrontRow::new();
+        self.gather(
+            rt,
+            pass,
+            &mut fronts,
+            &call,
+            self.needed(&call),
+            unasked(&call),
+        )
+    }
+
+    // The sites whose locks the call takes.
+    fn needed(&self, call: &Call) -> &[SiteId]
+        requires { IsCall N.cluster call.now }
+        ensures sites { result.now ≡ sites_for N.cluster N.turn call.now }
+        ensures within { All (λ i. i < length N.cluster.owned) result.now }
+        ensures few { length result.now ≤ 64 }
+    {
+        match call {
+            Call::Exec(i, e) => {
+                if self.owned[usize::from(i.0)].contains(*e) {
+                    self.network.participants(*e)
+                } else {
+                    &[]
+                }
+            }
+            Call::Look(i) | Call::Enabled(i) => slice::from_ref(&self.every[usize::from(i.0)]),
+            Call::Accepting => self.every.as_slice(),
+        }
+    }
+
+    // Takes the locks of the sites that are left, one after the other, and asks each; makes the call; and gives the
+    // locks back, the last one first.
+    fn gather<R: Wait>(
+        &self,
+        rt: &R,
+        pass: &mut Pass<N>,
+        fronts: &mut FrontRow<N>,
+        call: &Call,
+        left: &[SiteId],
+        found: Outcome,
+    ) -> Result<Outcome, Halt>
+        requires call { IsCall N.cluster call.now }
+        requires sites { sites_of fronts.old ++ left.now ≡ sites_for N.cluster N.turn call.now }
+        requires within { All (λ i. i < length N.cluster.owned) left.now }
+        requires few { length fronts.old + length left.now ≤ 64 }
+        requires found { Found N.cluster call.now fronts.old found }
+        ensures { Made N.cluster N.first N.capacity N.turn pass.old pass.new fronts.old fronts.new call.now result }
+    {
+        let Some((first, rest)) = left.split_first() else {
+            return self.commit(rt, pass, fronts, call, found);
+        };
+        let (grip, cell) = self.cells.lock(rt, first.0).split();
+        let found = cell.ask(*call, found);
+        let Cell { mut site, front } = cell;
+        fronts.push(front);
+        let answer = self.gather(rt, pass, fronts, call, rest, found);
+        let Some(front) = fronts.pop() else {
+            unreachable!()
+        };
+        if let Some(e) = done_by(call, &answer) {
+            site.apply(e);
+        }
+        grip.join(Cell { site, front }).unlock();
+        answer
+    }
+
+    // Comes by the gate, takes the journal's lock and makes the entry.
+    fn commit<R: Wait>(
+        &self,
+        rt: &R,
+        pass: &mut Pass<N>,
+        fronts: &mut FrontRow<N>,
+        call: &Call,
+        found: Outcome,
+    ) -> Result<Outcome, Halt>
+        requires call { IsCall N.cluster call.now }
+        requires few { length fronts.old ≤ 64 }
+        requires sites { sites_of fronts.old ≡ sites_for N.cluster N.turn call.now }
+        requires found { Found N.cluster call.now fronts.old found }
+        ensures { Made N.cluster N.first N.capacity N.turn pass.old pass.new fronts.old fronts.new call.now result }
+    {
+        self.gate.at(rt, pass.session(), pass.made());
+        let mut guard = self.turn.lock(rt);
+        guard.meet(pass);
+        let answer = enter(&mut guard, pass, fronts, call, found);
+        guard.unlock();
+        answer
+    }
+}
+
+// What a call is answered where no site was asked.
+fn unasked(call: &Call) -> Outcome
+    ensures { result ≡ unasked call.now }
+{
+    match call {
+        Call::Accepting => Outcome::AllDone,
+        _ => Outcome::NotHere,
+    }
+}
+
+// The event of an execution that was done.
+fn done_by(call: &Call, answer: &Result<Outcome, Halt>) -> Option<EventId>
+    ensures { result ≡ done_by call.now answer.now }
+{
+    let Ok(outcome) = answer else {
+        return None;
+    };
+    match call {
+        Call::Exec(_, e) => match outcome {
+            Outcome::Done => Some(*e),
+            _ => None,
+        },
+        _ => None,
+    }
+}
