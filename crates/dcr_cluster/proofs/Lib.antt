@@ -4,7 +4,7 @@ mod EnterLemmas
 mod CommitLemmas
 mod NeededLemmas
 mod GatherLemmas
-mod OpeningLemmas
+pub mod OpeningLemmas
 mod OpenLemmas
 mod PoppingLemmas
 mod StoreLemmas

@@ -19,9 +19,13 @@ pub record IsCluster (c : ClusterId) (turn : TurnId) (capacity places : ℕ) (ne
   pub every_site : every ≡ range_with_len 0 (length c.owned)
   pub begins : opening ≡ begun c
 
--- there is room for what comes back from so many sites
-pub record HasRoomFor (sites : ℕ) (fronts : Vec FrontValue Global) (marks : Vec SiteMark Global) : Type 0 where
+-- there is room for the fronts of so many sites, and no front yet
+pub record IsFrontRoom (sites : ℕ) (fronts : Vec FrontValue Global) : Type 0 where
   pub no_front : fronts.items ≡ []
   pub for_fronts : sites ≤ vec_capacity fronts
+
+-- there is room for what comes back from so many sites: that for the fronts lies at one place
+pub record HasRoomFor (sites rooms : ℕ) (marks : Vec SiteMark Global) : Type 0 where
+  pub one_room : rooms ≡ 1
   pub no_mark : marks.items ≡ []
   pub for_marks : sites ≤ vec_capacity marks

@@ -3,6 +3,7 @@ ghost use Rattle.dcr_turn.specs.PassValue.{HasMadeAll};
 ghost use Rattle.dcr_cluster.specs.Closing.{IsEnd};
 
 use crate::Cluster;
+use crate::room::FrontRoom;
 use dcr_base::{Disk, Gate};
 use dcr_cell::{Cell, StoreName};
 use dcr_journal::{Closed, MarkList};
@@ -46,9 +47,12 @@ impl<D: Disk, G: Gate + Drop, N: StoreName<D>> Cluster<D, G, N> {
             every: _,
             gate: _,
             opening,
-            mut fronts,
+            room,
             mut marks,
         } = self;
+        let mut rooms = room.close();
+        let FrontRoom { mut fronts } = rooms.take(rt);
+        rooms.finish();
         let mut end = cells.close();
         let mut waits = None;
         for _ in 0..owned.len() {

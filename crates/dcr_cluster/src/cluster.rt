@@ -1,10 +1,11 @@
+use crate::room::FrontRoom;
 use dcr_base::{Disk, Gate};
 use dcr_cell::{Cell, Kept, StoreName};
 use dcr_graph::{Marking, SiteMark};
 use dcr_lock::Row;
 use dcr_proj::Network;
 use dcr_set::{EventSet, SiteId};
-use dcr_turn::{Front, Turn};
+use dcr_turn::Turn;
 use std::marker::Model;
 
 /// The sites of a case, each behind a lock of its own, and the one order of all calls. Calls may come from any thread,
@@ -22,7 +23,7 @@ pub struct Cluster<D: Disk, G: Gate, N: StoreName<D>> {
     // The marking that the cluster began with, for its end.
     pub(crate) opening: Marking,
     // Room for what comes back from the sites at the end.
-    pub(crate) fronts: Vec<Front<N>>,
+    pub(crate) room: Row<FrontRoom<N>>,
     pub(crate) marks: Vec<SiteMark>,
 }
 
@@ -35,5 +36,5 @@ impl<D: Disk, G: Gate, N: StoreName<D>> Model for Cluster<D, G, N> {
     ghost view = { λ _. record {} };
 
     ghost invariant = { λ s. IsCluster N.cluster N.turn N.capacity s.cells s.network s.owned.items s.every.items s.opening
-        × HasRoomFor (length N.cluster.owned) s.fronts s.marks };
+        × HasRoomFor (length N.cluster.owned) s.room s.marks };
 }

@@ -12,6 +12,7 @@ mod open;
 mod prepare;
 mod push;
 mod refused;
+mod room;
 
 pub use blank::ClusterBlank;
 pub use close::Finished;

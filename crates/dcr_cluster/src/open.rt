@@ -3,6 +3,7 @@ ghost use Rattle.dcr_site.specs.Together.{AllStand};
 ghost use Rattle.dcr_turn.specs.PassValue.{new_passes};
 ghost use Rattle.dcr_cell.specs.ClusterId.{IsNamed};
 ghost use Rattle.dcr_cell.specs.Stored.{MayBegin, StoreStands};
+ghost use Rattle.dcr_cluster.specs.ClusterModel.{IsCluster, HasRoomFor};
 ghost use Rattle.dcr_cluster.specs.Opening.{ArePossible, IsCause, Leaves, Refused};
 
 use crate::going_on::go_on;
@@ -67,43 +68,61 @@ impl<D: Disk, G: Gate + Drop, N: StoreName<D>> Cluster<D, G, N> {
                 store,
             });
         };
-        let store = match renewed::<D, N>(alloc, store) {
-            Ok(store) => store,
-            Err(refused) => return Err(refused),
-        };
-        let Prepared {
-            cells,
-            ready,
-            passes,
-            network,
-            owned,
-            every,
-            opening,
-            fronts,
-            marks,
-        } = prepared;
-        let turn = match ready.begin(alloc, Kept::new(store)) {
-            Ok(turn) => turn,
-            Err(TurnRefused { kept }) => {
-                return Err(OpenRefused {
-                    cause: OpenCause::NoMemory,
-                    store: kept.into_store(),
-                });
-            }
-        };
-        let cluster = Cluster {
-            cells,
-            turn,
-            network,
-            owned,
-            every,
-            gate,
-            opening,
-            fronts,
-            marks,
-        };
-        Ok((cluster, passes))
+        begin(alloc, prepared, store, gate)
     }
+}
+
+// Begins the journal's turn over the store, with all other memory taken.
+fn begin<D: Disk, G: Gate + Drop, N: StoreName<D>>(
+    alloc: Global,
+    prepared: Prepared<N>,
+    store: Store<D>,
+    gate: G,
+) -> Result<(Cluster<D, G, N>, Vec<Pass<N>>), OpenRefused<D>>
+    requires parts { IsCluster N.cluster N.turn N.capacity prepared.cells prepared.network prepared.owned.items prepared.every.items prepared.opening }
+    requires room { HasRoomFor (length N.cluster.owned) prepared.room prepared.marks }
+    requires store { N.first ≡ Some store }
+    requires begins { MayBegin D.view N.cluster.old store }
+    requires possible { ArePossible N.cluster (length N.cluster.old) }
+    ensures passes { IfOk result (λ opened. opened.1.items ≡ prepared.passes.items) }
+    ensures refused { IfErr result (λ refused. Refused D.view D.faults N.cluster store refused.cause refused.store) }
+{
+    let store = match renewed::<D, N>(alloc, store) {
+        Ok(store) => store,
+        Err(refused) => return Err(refused),
+    };
+    let Prepared {
+        cells,
+        ready,
+        passes,
+        network,
+        owned,
+        every,
+        opening,
+        room,
+        marks,
+    } = prepared;
+    let turn = match ready.begin(alloc, Kept::new(store)) {
+        Ok(turn) => turn,
+        Err(TurnRefused { kept }) => {
+            return Err(OpenRefused {
+                cause: OpenCause::NoMemory,
+                store: kept.into_store(),
+            });
+        }
+    };
+    let cluster = Cluster {
+        cells,
+        turn,
+        network,
+        owned,
+        every,
+        gate,
+        opening,
+        room,
+        marks,
+    };
+    Ok((cluster, passes))
 }
 
 // The store, with its tape renewed where it is an old one.

@@ -8,6 +8,7 @@ ghost use Rattle.dcr_cell.specs.ClusterId.{IsNamed, begun};
 ghost use Rattle.dcr_cluster.specs.ClusterModel.{IsCluster, HasRoomFor};
 
 use crate::going_on::marking_of;
+use crate::room::FrontRoom;
 use dcr_cell::{Cell, ClusterName};
 use dcr_graph::{Marking, SiteMark};
 use dcr_lock::Row;
@@ -28,7 +29,7 @@ pub(crate) struct Prepared<N: ClusterName> {
     pub(crate) owned: Vec<EventSet>,
     pub(crate) every: Vec<SiteId>,
     pub(crate) opening: Marking,
-    pub(crate) fronts: Vec<Front<N>>,
+    pub(crate) room: Row<FrontRoom<N>>,
     pub(crate) marks: Vec<SiteMark>,
 }
 
@@ -51,13 +52,13 @@ pub(crate) fn prepare<N: ClusterName>(
     requires same { sites.atoms ≡ atoms }
     requires stand { AllStand N.cluster.rules N.cluster.owned (begun N.cluster) sites.sites }
     ensures parts { IfOk result (λ p. IsCluster N.cluster N.turn N.capacity p.cells p.network p.owned.items p.every.items p.opening) }
-    ensures room { IfOk result (λ p. HasRoomFor (length N.cluster.owned) p.fronts p.marks) }
+    ensures room { IfOk result (λ p. HasRoomFor (length N.cluster.owned) p.room p.marks) }
     ensures passes { IfOk result (λ p. p.passes.items ≡ new_passes N.turn.sessions) }
 {
     let owned = copies(alloc, cover.owned_sets())?;
     let every = numbers(alloc, cover.sites())?;
     let count = owned.len();
-    let fronts = Vec::with_capacity(alloc, count)?;
+    let room = room_of::<N>(alloc, count)?;
     let marks = Vec::with_capacity(alloc, count)?;
     let opening = marking_of::<N>(sites.members(), &owned, atoms);
     let (network, members) = sites.into_parts();
@@ -71,7 +72,7 @@ pub(crate) fn prepare<N: ClusterName>(
         owned,
         every,
         opening,
-        fronts,
+        room,
         marks,
     })
 }
@@ -96,6 +97,18 @@ fn numbers(alloc: Global, sites: u16) -> Result<Vec<SiteId>, NoMemory>
         numbers.push(SiteId(i))?;
     }
     Ok(numbers)
+}
+
+// Room for the fronts of so many sites.
+fn room_of<N: ClusterName>(alloc: Global, sites: usize) -> Result<Row<FrontRoom<N>>, NoMemory>
+    requires { sites ≡ length N.cluster.owned }
+    ensures { IfOk result (λ row. row ≡ 1) }
+{
+    let fronts = Vec::with_capacity(alloc, sites)?;
+    let mut rooms = Vec::with_capacity(alloc, 1)?;
+    rooms.push_reserved(FrontRoom { fronts });
+    let row = Row::open(alloc, rooms)?;
+    Ok(row)
 }
 
 // The cell of each site behind a lock of its own.
