@@ -1,0 +1,3 @@
+pub mod Dealing
+pub mod Working
+pub mod Order

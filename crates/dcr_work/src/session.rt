@@ -1,0 +1,35 @@
+ghost use Rattle.std.specs.Prelude.{◌≡◌, false, length};
+ghost use Rattle.std.specs.List.{All};
+ghost use Rattle.dcr_turn.specs.Covers.{is_by};
+ghost use Rattle.dcr_cell.specs.ClusterId.{IsCall, IsRunOf};
+ghost use Rattle.dcr_work.specs.Working.{BeganWith, HasWorked};
+
+use dcr_base::{Disk, Gate};
+use dcr_cell::StoreName;
+use dcr_cluster::Cluster;
+use dcr_journal::CallList;
+use dcr_turn::Pass;
+use std::sync::Wait;
+
+/// Makes the calls of the pass's session, which has made none, one after the other, until a call halts.
+pub(crate) fn run_session<D: Disk, G: Gate, N: StoreName<D>, R: Wait>(
+    rt: &R,
+    cluster: &Cluster<D, G, N>,
+    pass: &mut Pass<N>,
+    calls: &CallList,
+)
+    requires in_range { All (IsCall N.cluster) calls.now }
+    requires legal { IsRunOf N.cluster pass.old.front }
+    requires made_none { pass.old.made ≡ 0 }
+    requires none { All (λ entry. is_by pass.old.session entry ≡ false) pass.old.front }
+    ensures session { pass.new.session ≡ pass.old.session }
+    ensures worked { HasWorked N.cluster N.first N.capacity calls.now pass.new }
+    ensures began { BeganWith pass.old.front pass.new }
+{
+    for i in 0..calls.len() {
+        let call = *calls.get(i).unwrap();
+        let Ok(_) = cluster.call(rt, pass, call) else {
+            return;
+        };
+    }
+}
