@@ -16,8 +16,12 @@ pub enum Status {
     WriteFault,
     /// Memory was wanted and could not be had.
     NoMemory,
+    /// The disk failed.
+    DiskFault,
     /// The report that was read is not that of a legal history.
     Invalid,
+    /// The tape was read, and refused.
+    TapeRefused,
 }
 
 impl Status {
@@ -32,7 +36,9 @@ impl Status {
             Status::ReadFault => 4,
             Status::WriteFault => 5,
             Status::NoMemory => 6,
+            Status::DiskFault => 7,
             Status::Invalid => 8,
+            Status::TapeRefused => 10,
         }
     }
 }

@@ -65,6 +65,7 @@ opened_reading old synced mid new digest part entries first durable second third
       same_case = same;
       holds = subst (λ c. Holds c part entries) (sym kept.1) holds;
       few = few;
+      honest = third.honest ∙ (second.honest ∙ first.honest);
       steady = λ honest. stays_steady synced new durable (stays_trans synced mid new second third) (honest_as old synced first.honest honest);
       any_moment = λ honest _. stays_leaves old new (stays_trans old mid new before third) honest;
     }
@@ -91,9 +92,9 @@ made_holds digest long =
 
 pub opened_making : (old synced mid new : DiskView) (digest : List ℕ) → length digest ≡ 32
     → Stays old synced → Durable synced → Stays synced mid → IsTrue mid.told → length mid.content ≡ 0
-    → Wrote 0 (part_bytes digest []) mid new → (IsSteady mid → IsSteady new)
+    → Wrote 0 (part_bytes digest []) mid new → (IsSteady mid → IsSteady new) → new.honest ≡ mid.honest
     → Opened old new digest (record { start = 0; width = Twelve; digest = digest }) []
-opened_making old synced mid new digest long first durable second told empty wrote steady =
+opened_making old synced mid new digest long first durable second told empty wrote steady honest =
     let before = stays_trans old synced mid first second in
     let none : mid.content ≡ [] = nil_from_length mid.content empty in
     let made : new.content ≡ part_bytes digest [] = wrote.holds ∙ written_new (part_bytes digest []) wrote.content (sym (wrote.was told) ∙ none) in
@@ -106,6 +107,7 @@ opened_making old synced mid new digest long first durable second told empty wro
       same_case = refl;
       holds = subst (λ c. Holds c (record { start = 0; width = Twelve; digest = digest }) []) (sym made) (made_holds digest long);
       few = omega arith;
+      honest = honest ∙ (second.honest ∙ first.honest);
       steady = λ honest. steady (stays_steady synced mid durable second (honest_as old synced first.honest honest));
       any_moment = λ _ some. absurd (some none);
     }

@@ -68,6 +68,8 @@ pub record Opened (old new : DiskView) (digest : List ℕ) (part : Part) (entrie
   pub same_case : part.digest ≡ digest
   pub holds : Holds new.content part entries
   pub few : length entries ≤ most_records
+  -- the disk is honest where it was
+  pub honest : new.honest ≡ old.honest
   -- nothing is pending
   pub steady : IsTrue old.honest → IsSteady new
   -- reading leaves what a crash might have left before

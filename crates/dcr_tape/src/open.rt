@@ -98,6 +98,7 @@ fn open_disk<D: Disk>(alloc: Global, disk: &mut D, digest: &[u8; 32]) -> Result<
 fn make<D: Disk>(disk: &mut D, digest: &[u8; 32]) -> Result<(), TapeCause>
     ensures made { OnOk result (Wrote 0 (part_bytes digest.now []) (D.view disk.old) (D.view disk.new)) }
     ensures steady { IsSteady (D.view disk.old) → OnOk result (IsSteady (D.view disk.new)) }
+    ensures honest { (D.view disk.new).honest ≡ (D.view disk.old).honest }
     ensures cause { IfErr result (λ cause. cause ≡ TapeCause.DiskFault) }
     ensures counts { CountsCause result (D.faults disk.old) (D.faults disk.new) }
 {

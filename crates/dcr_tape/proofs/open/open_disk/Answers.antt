@@ -13,7 +13,7 @@ returns-then-len-eq0-clause-opened g c =
     let none : c.in_ok-len.len ≡ 0 = search rules in
     subst (λ entries. Opened (g.D.Disk.view c.args.disk.now) new digest (record { start = 0; width = Twelve; digest = digest }) entries) (sym c.new.ensures.items)
     (opened_making (g.D.Disk.view c.args.disk.now) (g.D.Disk.view c.sync.new.self) (g.D.Disk.view c.len.new.self) new digest long c.sync.ensures.stays c.in_ok-sync.ensures.durable c.len.ensures.stays
-    (c.in_ok-len.ensures.length.0) (sym c.in_ok-len.ensures.length.1 ∙ none) c.in_ok-make.ensures.made c.in_ok-make.ensures.steady)
+    (c.in_ok-len.ensures.length.0) (sym c.in_ok-len.ensures.length.1 ∙ none) c.in_ok-make.ensures.made c.in_ok-make.ensures.steady c.make.ensures.honest)
 
 pub returns-clause-opened : goal.returns-clause-opened
 returns-clause-opened g c =
