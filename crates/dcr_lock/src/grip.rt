@@ -2,6 +2,7 @@ ghost use Rattle.std.specs.Prelude.{◌≡◌};
 ghost use Rattle.dcr_lock.specs.Seats.{HasPlace, holding};
 
 use crate::steps::{PlaceSeat, SharedPlaces};
+use crate::waiters::Waiters;
 use crate::{Held, Placed, seats};
 use std::marker::Model;
 
@@ -9,6 +10,7 @@ use std::marker::Model;
 /// see the number of the place.
 pub struct Grip<'a, T: Placed> {
     shared: &'a SharedPlaces<T>,
+    waiters: &'a Waiters,
     seat: PlaceSeat<T>,
     place: u16,
 }
@@ -27,7 +29,12 @@ impl<'a, T: Placed> Model for Grip<'a, T> {
 
 impl<'a, T: Placed> Grip<'a, T> {
     /// Of a seat that holds the place, with the slot empty.
-    pub(crate) fn new(shared: &'a SharedPlaces<T>, seat: PlaceSeat<T>, place: u16) -> Grip<'a, T>
+    pub(crate) fn new(
+        shared: &'a SharedPlaces<T>,
+        waiters: &'a Waiters,
+        seat: PlaceSeat<T>,
+        place: u16,
+    ) -> Grip<'a, T>
         requires row { seat.table_id ≡ shared.now.table_id }
         requires place { HasPlace shared.now.table_id place }
         requires holds { seat.me ≡ holding place 0 }
@@ -35,6 +42,7 @@ impl<'a, T: Placed> Grip<'a, T> {
     {
         Grip {
             shared,
+            waiters,
             seat,
             place,
         }
@@ -48,22 +56,25 @@ impl<'a, T: Placed> Grip<'a, T> {
         Held::new(self, value)
     }
 
-    /// Gives the place back with a value that belongs there.
+    /// Gives the place back with a value that belongs there, and wakes one thread that waits for it.
     pub(crate) fn put_back(self, value: T)
         requires { T.belongs self value }
     {
         let Grip {
             shared,
+            waiters,
             mut seat,
             place,
         } = self;
         seats::put_back(shared, &mut seat, place, value);
+        seats::wake(shared, waiters, place);
     }
 
     /// Leaves the place empty for ever.
     pub(crate) fn leave_empty(self) {
         let Grip {
             shared,
+            waiters: _,
             mut seat,
             place,
         } = self;

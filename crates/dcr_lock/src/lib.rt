@@ -10,6 +10,7 @@ mod seats;
 mod steps;
 #[cfg(test)]
 mod tests;
+mod waiters;
 
 pub use grip::Grip;
 pub use held::Held;

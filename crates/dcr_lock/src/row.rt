@@ -4,10 +4,12 @@ ghost use Rattle.dcr_lock.specs.Placing.{StandInPlace, ChangesWithin, HasChanged
 ghost use Rattle.dcr_lock.specs.Seats.{idle};
 
 use crate::steps::{EMPTY, Fill, MOST_PLACES, PlaceSeat, PlaceTable, SharedPlaces, Sit, TAKEN};
+use crate::waiters::Waiters;
 use crate::{Grip, Held, Placed, RowEnd, seats};
 use atomic_table::Table;
 use dcr_set::NoMemory;
 use std::alloc::Global;
+use std::array;
 use std::marker::Model;
 use std::sync::Wait;
 
@@ -16,6 +18,8 @@ use std::sync::Wait;
 #[derive(Drop)]
 pub struct Row<T: Placed> {
     table: PlaceTable<T>,
+    // Those of each place, and of none beyond.
+    waiters: [Waiters; MOST_PLACES],
 }
 
 impl<T: Placed> Model for Row<T> {
@@ -58,7 +62,8 @@ impl<T: Placed> Row<T> {
             return Err(RowRefused { values });
         };
         fill(&table.shared, seat, values);
-        Ok(Row { table })
+        let waiters = array::from_fn(|_| Waiters::none());
+        Ok(Row { table, waiters })
     }
 
     /// How many places there are.
@@ -77,8 +82,9 @@ impl<T: Placed> Row<T> {
     {
         let shared = &self.table.shared;
         let (_, mut seat) = shared.load_new_seat::<Sit>(place as usize);
-        let value = seats::take(shared, rt, &mut seat, place);
-        Grip::new(shared, seat, place).join(value)
+        let waiters = &self.waiters[place as usize];
+        let value = seats::take(shared, waiters, rt, &mut seat, place);
+        Grip::new(shared, waiters, seat, place).join(value)
     }
 
     /// Waits until the place is free, and changes its value under the lock. `change` is handed a value
@@ -100,7 +106,7 @@ impl<T: Placed> Row<T> {
         ensures places { result.places ≡ self }
         ensures emptied { result.emptied ≡ 0 }
     {
-        let Row { table } = self;
+        let Row { table, waiters: _ } = self;
         RowEnd::new(table)
     }
 }

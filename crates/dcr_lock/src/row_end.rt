@@ -1,6 +1,7 @@
 ghost use Rattle.std.specs.Prelude.{◌≡◌, ◌+◌, ◌<◌, ◌≤◌};
 
 use crate::steps::{PlaceSeat, PlaceTable, Sit};
+use crate::waiters::Waiters;
 use crate::{Placed, seats};
 use std::marker::Model;
 use std::sync::Wait;
@@ -54,7 +55,9 @@ impl<T: Placed> RowEnd<T> {
         let place = self.emptied;
         let table = &self.table;
         let seat = &mut self.seat;
-        let value = seats::take(&table.shared, rt, seat, place);
+        // Nobody gives back a place of a row that is being ended, so nobody asks whether this thread waits.
+        let waiters = Waiters::none();
+        let value = seats::take(&table.shared, &waiters, rt, seat, place);
         seats::leave_empty(&table.shared, seat, place);
         self.emptied += 1;
         value

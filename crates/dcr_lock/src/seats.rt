@@ -5,11 +5,13 @@ ghost use Rattle.dcr_lock.specs.Steps.{empty_then};
 
 use crate::Placed;
 use crate::steps::{EMPTY, FREE, GiveBack, PlaceSeat, SharedPlaces, TAKEN, Take};
+use crate::waiters::Waiters;
 use std::sync::Wait;
 
 /// Waits until the place is free, and takes its value. The seat holds the place then, with its slot empty.
 pub(crate) fn take<T: Placed, R: Wait>(
     shared: &SharedPlaces<T>,
+    waiters: &Waiters,
     rt: &R,
     seat: &mut PlaceSeat<T>,
     place: u16,
@@ -30,13 +32,14 @@ pub(crate) fn take<T: Placed, R: Wait>(
             return value;
         }
         // It sleeps on what it found: a place that is empty stays so, and is not asked again and again.
+        waiters.come();
         shared.park(rt, at, found as u32);
+        waiters.go();
     }
     unreachable!()
 }
 
-/// Puts a value that belongs there into the slot of a place that the seat holds, frees the place and
-/// wakes one thread that waits for it.
+/// Puts a value that belongs there into the slot of a place that the seat holds, and frees the place.
 pub(crate) fn put_back<T: Placed>(
     shared: &SharedPlaces<T>,
     seat: &mut PlaceSeat<T>,
@@ -54,7 +57,15 @@ pub(crate) fn put_back<T: Placed>(
     let stood = shared.exchange(seat, at, Some(value));
     let None = stood else { unreachable!() };
     shared.store::<GiveBack>(seat, at, FREE);
-    shared.wake_one(at);
+}
+
+/// Wakes one thread that waits for a place that was freed, where there is one.
+pub(crate) fn wake<T: Placed>(shared: &SharedPlaces<T>, waiters: &Waiters, place: u16)
+    requires { HasPlace shared.now.table_id place }
+{
+    if waiters.are_there() {
+        shared.wake_one(place as usize);
+    }
 }
 
 /// Leaves a place that the seat holds, and whose slot is empty, empty for ever.
