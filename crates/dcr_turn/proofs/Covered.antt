@@ -1,5 +1,5 @@
 -- A front that covers a list says of its holder what the list says.
-use Rattle.std.proofs.Common.{◌≡◌, ℕ, Bool, false, List, [], ◌∷◌, ◌++◌, map, sym, refl, ap, ◌∙◌, subst}
+use Rattle.std.proofs.Common.{◌≡◌, Bool, false, List, [], ◌∷◌, ◌++◌, map, sym, refl, ap, ◌∙◌, subst}
 use Rattle.std.specs.List.{All, filter}
 use Rattle.std.proofs.lemmas.List.{append-nil}
 use Rattle.std.proofs.lemmas.List.Elements.{All-head, All-tail, filter-append}
@@ -9,7 +9,7 @@ use Rattle.dcr_journal.specs.declared.call.Entry.{Entry}
 use Rattle.dcr_laws.proofs.TouchesLemmas.{untouched_by_the_set}
 use Rattle.dcr_proj.specs.Local.{projection_of}
 use Rattle.dcr_set.specs.EventSet.{has}
-use Rattle.dcr_turn.specs.Covers.{Covers, is_heard, is_by}
+use Rattle.dcr_turn.specs.Covers.{is_heard, is_by}
 use Rattle.dcr_turn.specs.Laws.{CoveredMarksStay, CoveredCallsStay, CoveredCountStays}
 use Rattle.dcr_turn.proofs.Covering.{All-right, covers_count}
 

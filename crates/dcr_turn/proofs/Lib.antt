@@ -1,4 +1,5 @@
 mod Covering
+pub mod Faults
 mod Counting
 mod Keeping
 mod Visiting

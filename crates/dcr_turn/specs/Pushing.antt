@@ -1,5 +1,6 @@
 -- What a push asks, and what it adds.
-use Rattle.std.specs.Prelude.{◌≡◌, ℕ, ◌-◌, ◌==◌, true, List, [], ◌∷◌, length, slice_get, slice_index_or, Some, if◌then◌else◌}
+use Rattle.std.specs.Prelude.{◌≡◌, ℕ, ◌-◌, ◌==◌, Bool, true, false, List, [], ◌∷◌, length, slice_get, slice_index_or, Some, if◌then◌else◌}
+use Rattle.std.specs.Option.{option_map_or}
 use Rattle.std.specs.List.{Contains}
 use Rattle.dcr_set.specs.EventSet.{Set, has}
 use Rattle.dcr_journal.specs.Run.{event_done}
@@ -8,6 +9,15 @@ use Rattle.dcr_journal.specs.declared.call.Outcome.{Outcome}
 use Rattle.dcr_journal.specs.declared.call.Outcome.TheVariants.{Faulted}
 use Rattle.dcr_journal.specs.declared.call.Entry.{Entry}
 use Rattle.dcr_turn.specs.PassValue.{PassValue}
+
+-- whether keeping an execution failed
+abbrev pub is_fault : Outcome → Bool
+is_fault Faulted = true
+is_fault outcome = false
+
+-- whether the list ends with a fault
+abbrev pub ends_in_fault : List Entry → Bool
+ends_in_fault J = option_map_or (λ (entry : Entry). is_fault entry.outcome) (slice_get J (length J - 1)) false
 
 -- the list doesn't end with a fault
 abbrev pub EndsWithoutFault : List Entry → Type 0

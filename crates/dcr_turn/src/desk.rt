@@ -3,7 +3,7 @@ ghost use Rattle.std.specs.List.{All, Contains};
 ghost use Rattle.dcr_journal.specs.declared.call.Entry.{Entry};
 ghost use Rattle.dcr_turn.specs.FrontValue.{HasMissedNone};
 ghost use Rattle.dcr_turn.specs.PassValue.{HasMadeAll};
-ghost use Rattle.dcr_turn.specs.Pushing.{AllHear, entry_of, without_first};
+ghost use Rattle.dcr_turn.specs.Pushing.{AllHear, ends_in_fault, entry_of, is_fault, without_first};
 ghost use Rattle.dcr_turn.specs.Records.{all_know};
 
 use crate::order::Order;
@@ -19,6 +19,8 @@ use std::marker::{Brand, Model};
 pub(crate) struct Desk<N: TurnName> {
     journal: Journal,
     records: Records<N>,
+    // Whether the list ends with a fault, so that no call has to look at its last entry.
+    faulted: bool,
 }
 
 impl<N: TurnName> Model for Desk<N> {
@@ -41,7 +43,11 @@ impl<N: TurnName> Desk<N> {
         ensures entries { result.entries ≡ [] }
         ensures enlisted { result.enlisted ≡ [] }
     {
-        Desk { journal, records }
+        Desk {
+            journal,
+            records,
+            faulted: false,
+        }
     }
 
     /// The pass has seen the whole list then.
@@ -118,6 +124,7 @@ impl<N: TurnName> Desk<N> {
         ensures front { pass.new.front ≡ self.new.entries }
         ensures made { pass.new.made ≡ pass.old.made + 1 }
     {
+        let faulted = is_fault_told(&outcome);
         let entry = Entry {
             session: pass.session,
             seq: pass.made,
@@ -128,6 +135,7 @@ impl<N: TurnName> Desk<N> {
         self.records.publish(order, self.journal.len(), &entry);
         pass.badge = self.records.cut(order).into_badge();
         self.journal.push(entry);
+        self.faulted = faulted;
         pass.seen = self.journal.len();
         pass.made += 1;
     }
@@ -137,6 +145,13 @@ impl<N: TurnName> Desk<N> {
         ensures { result + length self.now.entries ≡ N.capacity }
     {
         self.journal.spare()
+    }
+
+    /// Whether the list ends with a fault.
+    pub(crate) fn is_faulted(&self) -> bool
+        ensures { result ≡ ends_in_fault self.now.entries }
+    {
+        self.faulted
     }
 
     /// The last entry. None exactly where there is none.
@@ -155,8 +170,19 @@ impl<N: TurnName> Desk<N> {
         let Desk {
             journal,
             mut records,
+            faulted: _,
         } = self;
         records.hear(order);
         journal
+    }
+}
+
+// Whether keeping an execution failed.
+fn is_fault_told(outcome: &Outcome) -> bool
+    ensures { result ≡ is_fault outcome.now }
+{
+    match outcome {
+        Outcome::Faulted => true,
+        _ => false,
     }
 }

@@ -4,7 +4,7 @@ ghost use Rattle.std.specs.List.{Contains};
 ghost use Rattle.dcr_turn.specs.FrontValue.{HasMissedNone};
 ghost use Rattle.dcr_turn.specs.GuardValue.{with_enlisted, with_entries, with_kept};
 ghost use Rattle.dcr_turn.specs.PassValue.{HasMadeAll};
-ghost use Rattle.dcr_turn.specs.Pushing.{AllHear, EndsWithoutFault, entry_of, without_first};
+ghost use Rattle.dcr_turn.specs.Pushing.{AllHear, EndsWithoutFault, ends_in_fault, entry_of, without_first};
 ghost use mir.Syntax.{named};
 
 use crate::desk::Desk;
@@ -107,6 +107,13 @@ impl<'a, K: Keeps, N: TurnName> TurnGuard<'a, K, N> {
         ensures { result + length self.now.entries ≡ N.capacity }
     {
         self.desk.spare()
+    }
+
+    /// Whether the journal's list ends with a fault, which nobody can push behind.
+    pub fn is_faulted(&self) -> bool
+        ensures { result ≡ ends_in_fault self.now.entries }
+    {
+        self.desk.is_faulted()
     }
 
     /// The last entry of the journal. None exactly where there is none.

@@ -34,6 +34,7 @@ invariant_of-self g c = record {
   records = desk_again c.take_out-records.new.self c.self.inside.journal.entries (without_first c.args.site (sites_in c.self.inside.records))
       (left_is c.self.inside.journal.entries c.args.site (sites_in c.self.inside.records) c.self.inside.records c.take_out-records.new.self c.self.invariant.records c.take_out-records.ensures.kept);
   capacity = c.self.invariant.capacity;
+  faulted = c.self.invariant.faulted;
 }
 
 pub returns-clause-enlisted : goal.returns-clause-enlisted

@@ -15,7 +15,7 @@ invariant_of-self g c =
     let r = knowing c.args.front.front (Site c.args.front.site) in
     let came = joined_is H H L r r c.self.inside.records c.into_records.result c.join.new.self c.self.invariant.records c.into_records.ensures c.join.ensures in
     let heard = heard_is H H L r r c.join.new.self c.into_records.result c.hear.new.self came c.hear.ensures.told in
-    record { records = desk_again c.hear.new.self H (c.args.front.site ∷ L) heard; capacity = c.self.invariant.capacity }
+    record { records = desk_again c.hear.new.self H (c.args.front.site ∷ L) heard; capacity = c.self.invariant.capacity; faulted = c.self.invariant.faulted }
 
 pub returns-clause-enlisted : goal.returns-clause-enlisted
 returns-clause-enlisted g c =

@@ -22,7 +22,7 @@ invariant_of-self g c =
     let one = one_view c.out_of.result (r ∷ []) (sym c.out_of.ensures ∙ c.pass.invariant.views) in
     let came = joined_is H H L r r c.self.inside.records c.out_of.result c.join.new.self c.self.invariant.records one c.join.ensures in
     let heard = heard_is H H L r r c.join.new.self c.out_of.result c.hear.new.self came c.hear.ensures.told in
-    record { records = desk_again c.cut.new.self H L (kept_is H H L r (knowing H x) c.hear.new.self c.out_of.result c.cut.new.self heard c.cut.ensures.kept); capacity = c.self.invariant.capacity }
+    record { records = desk_again c.cut.new.self H L (kept_is H H L r (knowing H x) c.hear.new.self c.out_of.result c.cut.new.self heard c.cut.ensures.kept); capacity = c.self.invariant.capacity; faulted = c.self.invariant.faulted }
 
 pub invariant_of-pass : goal.invariant_of-pass
 invariant_of-pass g c =

@@ -4,10 +4,11 @@ use Rattle.dcr_journal.specs.declared.call.Entry.{Entry}
 use Rattle.dcr_turn.specs.DeskValue.{DeskValue}
 use Rattle.dcr_turn.specs.PassModel.{seen_in}
 use Rattle.dcr_turn.specs.PassValue.{PassValue}
-use Rattle.dcr_turn.specs.Pushing.{AllHear}
+use Rattle.dcr_turn.specs.Pushing.{AllHear, ends_in_fault}
 use Rattle.dcr_turn.specs.Records.{knowing, sites_in, all_know}
 use Rattle.dcr_turn.specs.declared.record.Holder.TheVariants.{Session}
 use Rattle.dcr_turn.specs.declared.record.Record.{Record}
+use Rattle.dcr_turn.proofs.Faults.{fault_pushed}
 use Rattle.dcr_turn.proofs.Passing.{one_view, seen_is, made_one_more}
 use Rattle.dcr_turn.proofs.Visiting.{desk_again, enlisted_is, joined_is, published_is, kept_is, cut_is, all_here}
 use Rattle.dcr_turn.proofs.desk.Desk.push.Goals as goal
@@ -37,6 +38,7 @@ invariant_of-self g c =
     let rest = kept_is H (H ++ e ∷ []) L r (knowing (H ++ e ∷ []) x) c.publish.new.self c.out_of.result c.cut.new.self told c.cut.ensures.kept in record {
       records = desk_again c.cut.new.self c.push.new.self.entries L (rest ∙ ap (λ (J : List Entry). all_know J L) (sym c.push.ensures.entries));
       capacity = c.push.ensures.capacity ∙ c.self.invariant.capacity;
+      faulted = c.is_fault_told-faulted.ensures ∙ sym (fault_pushed H e) ∙ ap ends_in_fault (sym c.push.ensures.entries);
     }
 
 pub invariant_of-pass : goal.invariant_of-pass
