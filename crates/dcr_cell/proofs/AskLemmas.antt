@@ -189,6 +189,13 @@ module _ (c : ClusterId) (call : Call) (fronts : List FrontValue) (front : Front
             ∙ ap verdict_of (sym (ap (fold lesser None) (map-append waits_of fronts (front ∷ [])) ∙ fold_push lesser None (map waits_of fronts) (waits_of front)));
       }
 
+-- the execution that asks a site is one by it
+pub execution_by : (call : Call) (i j e : ℕ) → call ≡ Exec j e → asked call ≡ Some i → call ≡ Exec i e
+execution_by call i j e is asks =
+    let some : Some j ≡ Some i = sym (ap asked is) ∙ asks in
+    let same : j ≡ i = cc in
+    is ∙ ap (λ (k : ℕ). Exec k e) same
+
 -- what a site decides of an event is the answer
 pub decided_is : (G : Rules) (C : List Set) (i e : ℕ) (M : Marking) → outcome_decided (decision G (row C i) M e) ≡ answer G C M (Exec i e)
 decided_is G C i e M = by_case (has (row C i) e) (cause G M e)

@@ -1,74 +1,106 @@
-ghost use Rattle.std.specs.Prelude.{◌≡◌, ℕ, Option};
+ghost use Rattle.std.specs.Prelude.{◌≡◌, ℕ, Option, Some};
 ghost use Rattle.dcr_journal.specs.Answer.{verdict_of};
+ghost use Rattle.dcr_cell.specs.Laws.{asked};
 ghost use Rattle.dcr_set.specs.Least.{lesser};
 
 use crate::ClusterName;
 use dcr_journal::{Call, Outcome};
 use dcr_lock::Placed;
-use dcr_set::EventId;
+use dcr_set::{EventId, SiteId};
 use dcr_site::Site;
 use dcr_turn::Front;
 
 /// What lies under the lock of a site: its part of the rules with its marks, and how much of the journal it has seen.
+/// The site lies in memory of its own, so that little is moved when the lock is taken and given back.
 #[derive(Drop)]
 pub struct Cell<N: ClusterName> {
-    pub site: Site,
+    pub site: Box<Site>,
     pub front: Front<N>,
 }
 
 impl<N: ClusterName> Placed for Cell<N> {
     ghost use Rattle.dcr_cell.specs.CellStands.{CellStands};
 
-    ghost belongs = { λ place cell. CellStands N.cluster place cell.site cell.front };
+    ghost belongs = { λ place cell. CellStands N.cluster place cell.site.value cell.front };
 }
 
 impl<N: ClusterName> Cell<N> {
-    ghost use Rattle.std.specs.Prelude.{◌<◌, List, [], ◌∷◌, ◌++◌, length};
+    ghost use Rattle.std.specs.Prelude.{◌≡◌, ◌<◌, List, [], ◌∷◌, ◌++◌, length, Some};
     ghost use Rattle.dcr_turn.specs.FrontValue.{FrontValue};
     ghost use Rattle.dcr_cell.specs.Asking.{Found};
     ghost use Rattle.dcr_cell.specs.CellStands.{CellStands};
-    ghost use Rattle.dcr_cell.specs.ClusterId.{IsNamed, IsCall};
+    ghost use Rattle.dcr_cell.specs.ClusterId.{IsNamed, IsCall, answer_after};
+    ghost use Rattle.dcr_cell.specs.Laws.{asked};
 
-    /// What is found of a call where this site is asked besides those that found this. It answers by its own marks.
-    pub fn ask(&self, call: Call, found: Outcome) -> Outcome
+    /// What was found of a call becomes what is found where this site is asked besides those that found it. It answers
+    /// by its own marks.
+    pub fn ask(&self, call: &Call, found: &mut Outcome)
         requires named { IsNamed N.cluster N.turn }
-        requires call { IsCall N.cluster call }
+        requires call { IsCall N.cluster call.now }
         requires site { self.now.front.site < length N.cluster.owned }
-        requires stands { CellStands N.cluster self.now.front.site self.now.site self.now.front }
-        ensures { (fronts : List FrontValue) → Found N.cluster call fronts found → Found N.cluster call (fronts ++ self.now.front ∷ []) result }
+        requires stands { CellStands N.cluster self.now.front.site self.now.site.value self.now.front }
+        ensures { (fronts : List FrontValue) → Found N.cluster call.now fronts found.old → Found N.cluster call.now (fronts ++ self.now.front ∷ []) found.new }
     {
-        let i = self.front.site();
+        match asked_site(call) {
+            None => wait_besides(found, self.site.first_waiting()),
+            Some(i) => {
+                if i == self.front.site() {
+                    self.answer(call, found);
+                }
+            }
+        }
+    }
+
+    // What the one site that a call asks answers. It stands by itself, since room for three outcomes is cleared where it
+    // begins, which other sites need not wait for.
+    #[inline(never)]
+    fn answer(&self, call: &Call, told: &mut Outcome)
+        requires named { IsNamed N.cluster N.turn }
+        requires call { IsCall N.cluster call.now }
+        requires asked { asked call.now ≡ Some self.now.front.site }
+        requires site { self.now.front.site < length N.cluster.owned }
+        requires stands { CellStands N.cluster self.now.front.site self.now.site.value self.now.front }
+        ensures { told.new ≡ answer_after N.cluster self.now.front.front call.now }
+    {
         match call {
-            Call::Exec(asked, e) => {
-                if asked == i {
-                    return Outcome::of_decision(self.site.decide(e));
-                }
-                found
-            }
-            Call::Look(asked) => {
-                if asked == i {
-                    return Outcome::Marks(self.site.mark());
-                }
-                found
-            }
-            Call::Enabled(asked) => {
-                if asked == i {
-                    return Outcome::Can(self.site.can());
-                }
-                found
-            }
-            Call::Accepting => sooner(found, self.site.first_waiting()),
+            Call::Exec(_, e) => *told = Outcome::of_decision(self.site.decide(*e)),
+            Call::Look(_) => *told = Outcome::Marks(self.site.mark()),
+            Call::Enabled(_) => *told = Outcome::Can(self.site.can()),
+            Call::Accepting => unreachable!(),
         }
     }
 }
 
-// The verdict where a site waits for this event besides.
-fn sooner(verdict: Outcome, waits: Option<EventId>) -> Outcome
-    ensures { (before : Option ℕ) → verdict ≡ verdict_of before → result ≡ verdict_of (lesser before waits) }
+// The one site that a call asks. None where it asks all.
+fn asked_site(call: &Call) -> Option<SiteId>
+    ensures { result ≡ asked call.now }
+{
+    match call {
+        Call::Exec(i, _) => Some(*i),
+        Call::Look(i) => Some(*i),
+        Call::Enabled(i) => Some(*i),
+        Call::Accepting => None,
+    }
+}
+
+// The verdict becomes that where a site waits for this event besides.
+fn wait_besides(verdict: &mut Outcome, waits: Option<EventId>)
+    ensures { (before : Option ℕ) → verdict.old ≡ verdict_of before → verdict.new ≡ verdict_of (lesser before waits) }
+{
+    match waits {
+        None => {}
+        Some(e) => wait_for(verdict, e),
+    }
+}
+
+// The same where it waits for one. It stands by itself, since room for an outcome is cleared where it begins.
+#[inline(never)]
+fn wait_for(verdict: &mut Outcome, event: EventId)
+    ensures { (before : Option ℕ) → verdict.old ≡ verdict_of before → verdict.new ≡ verdict_of (lesser before (Some event)) }
 {
     let before = match verdict {
-        Outcome::Waits(e) => Some(e),
+        Outcome::Waits(e) => Some(*e),
         _ => None,
     };
-    Outcome::verdict(EventId::lesser(before, waits))
+    *verdict = Outcome::verdict(EventId::lesser(before, Some(event)));
 }

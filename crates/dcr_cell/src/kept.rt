@@ -40,22 +40,23 @@ impl<D: Disk, N: StoreName<D>> Kept<D, N> {
         }
     }
 
-    /// What a call is told that was found to have this outcome. An execution that is to be done is put on the tape,
-    /// where there is one; where that fails it is told as a fault, and the tape is stopped. Takes no memory.
-    pub fn told(&mut self, call: Call, found: Outcome) -> Outcome
+    /// What was found of a call becomes what it is told. An execution that is to be done is put on the tape, where there
+    /// is one; where that fails it is told as a fault, and the tape is stopped. Takes no memory.
+    pub fn tell(&mut self, call: &Call, told: &mut Outcome)
         requires { CanKeep self.old.store }
-        ensures told { (J : List Entry) → StoreStands D.view D.faults N.first N.cluster.old J self.old.store → IsToldAs N.first found result }
+        ensures told { (J : List Entry) → StoreStands D.view D.faults N.first N.cluster.old J self.old.store → IsToldAs N.first told.old told.new }
         ensures kept { (J : List Entry) (entry : Entry) → StandsBy D.view D.faults N.cluster N.first J self.old.store → HasNoFault J
-            → IsCall N.cluster call → entry.call ≡ call → entry.seq ≡ made_by entry.session J
-            → found ≡ answer_after N.cluster J call → entry.outcome ≡ result
+            → IsCall N.cluster call.now → entry.call ≡ call.now → entry.seq ≡ made_by entry.session J
+            → told.old ≡ answer_after N.cluster J call.now → entry.outcome ≡ told.new
             → StandsBy D.view D.faults N.cluster N.first (J ++ entry ∷ []) self.new.store }
     {
-        if let Call::Exec(site, event) = call {
-            if let Outcome::Done = found {
-                return self.keep(site, event);
-            }
-        }
-        found
+        let Call::Exec(site, event) = call else {
+            return;
+        };
+        let Outcome::Done = told else {
+            return;
+        };
+        *told = self.keep(*site, *event);
     }
 
     // Puts an execution on the tape, where there is one: `Done`, or `Faulted` where the tape failed to keep it.

@@ -1,5 +1,5 @@
 -- Sites that stand together, the executions that they go on from, and the marking that is put together from them.
-use Rattle.std.proofs.Common.{◌≡◌, ℕ, ◌+◌, ◌-◌, ◌<◌, ◌≤◌, Bool, true, false, ◌&&◌, ◌||◌, List, [], ◌∷◌, ◌++◌, length, get_or, take, map, Option, Some, None, inl, inr, refl, sym, ap, subst, ◌∙◌, arith}
+use Rattle.std.proofs.Common.{◌≡◌, ℕ, ◌+◌, ◌<◌, ◌≤◌, Bool, true, false, ◌&&◌, ◌||◌, List, [], ◌∷◌, length, get_or, take, map, Some, refl, sym, ap, subst, ◌∙◌, arith}
 use Rattle.std.specs.Prelude.{slice_get, fold}
 use Rattle.std.specs.List.{All}
 use Rattle.std.proofs.lemmas.List.{ext_get_or, get_or-map, length-map, take_all, take_more}
@@ -7,24 +7,24 @@ use Rattle.std.proofs.lemmas.List.Folds.{list_any_more}
 use Rattle.std.proofs.lemmas.List.Sums.{fold-append}
 use Rattle.std.proofs.lemmas.Option.{slice_get_within, get_or_from_slice_get, slice_get-get_or}
 use mathlib.Core.Logic.{dite}
-use native.Mathlib.Decide.{ℕ_discrete, dec_lt}
+use native.Mathlib.Decide.{dec_lt}
 use Rattle.dcr_set.specs.EventSet.{Set, has, those, no_event, union, intersection}
 use Rattle.dcr_set.proofs.SetLemmas.{has-those, length-those, same_set}
-use Rattle.dcr_graph.specs.Projection.{FitsAtoms, HasRoom, project, tracks_executed, tracks_pending, tracks_included, is_condition_source, is_milestone_source}
+use Rattle.dcr_graph.specs.Projection.{FitsAtoms, HasRoom, tracks_executed, tracks_pending, tracks_included, is_condition_source, is_milestone_source}
 use Rattle.dcr_graph.specs.Rows.{row}
 use Rattle.dcr_graph.specs.Rules.{Rules}
 use Rattle.dcr_graph.specs.Step.{step}
 use Rattle.dcr_graph.specs.declared.marking.Marking.{Marking}
 use Rattle.dcr_graph.specs.declared.marking.SiteMark.{SiteMark}
-use Rattle.dcr_proj.specs.CoverValue.{is_owned, IsCovered, atoms_of}
+use Rattle.dcr_proj.specs.CoverValue.{is_owned, IsCovered}
 use Rattle.dcr_proj.specs.Local.{projection_of}
 use Rattle.dcr_run.specs.SitesModel.{alphabets_in}
 use Rattle.dcr_site.specs.Seen.{Seen, StandsAt}
-use Rattle.dcr_site.specs.Together.{AllStand, IsOver, AreOver}
+use Rattle.dcr_site.specs.Together.{AllStand, AreOver}
 use Rattle.dcr_tape.specs.declared.entry.TapeEntry.{TapeEntry}
 use Rattle.dcr_turn.specs.TurnId.{TurnId}
-use Rattle.dcr_cell.specs.ClusterId.{ClusterId, IsNamed, begun, marking_by, alphabet_of}
-use Rattle.dcr_cluster.specs.Opening.{ArePossible, IsFirstBad, IsPossible}
+use Rattle.dcr_cell.specs.ClusterId.{ClusterId, IsNamed, begun, marking_by}
+use Rattle.dcr_cluster.specs.Opening.{ArePossible, IsPossible}
 
 -- ---- sites that stand together
 

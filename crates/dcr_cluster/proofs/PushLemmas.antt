@@ -1,30 +1,51 @@
 -- What is done under the journal's lock: an entry that was made, and none.
-use Rattle.std.proofs.Common.{◌≡◌, ℕ, ◌+◌, ◌-◌, ◌≤◌, List, [], ◌∷◌, ◌++◌, length, Option, Some, Ok, Err, refl, sym, ap, ◌∙◌, subst, arith}
+use Rattle.std.proofs.Common.{◌≡◌, ℕ, ◌+◌, ◌-◌, ◌<◌, ◌≤◌, true, List, [], ◌∷◌, ◌++◌, length, Option, Ok, Err, refl, sym, ap, ◌∙◌, subst, arith}
 use Rattle.std.specs.Prelude.{slice_get}
+use Rattle.std.proofs.lemmas.Option.{slice_get_within}
 use Rattle.dcr_base.specs.Disk.{DiskView}
 use Rattle.dcr_journal.specs.Run.{HasNoFault, made_by}
 use Rattle.dcr_journal.specs.declared.call.Call.{Call}
 use Rattle.dcr_journal.specs.declared.call.Entry.{Entry}
 use Rattle.dcr_journal.specs.declared.call.Outcome.{Outcome}
-use Rattle.dcr_journal.specs.declared.call.Outcome.TheVariants.{Faulted}
 use Rattle.dcr_tape.specs.declared.tape.Store.{Store}
 use Rattle.dcr_turn.specs.GuardValue.{GuardValue, with_entries, with_kept}
 use Rattle.dcr_turn.specs.PassValue.{PassValue}
-use Rattle.dcr_turn.specs.Pushing.{EndsWithoutFault, entry_of}
+use Rattle.dcr_turn.specs.Pushing.{EndsWithoutFault, ends_in_fault, entry_of}
+use Rattle.dcr_turn.proofs.Faults.{fault_at_end}
 use Rattle.dcr_cell.specs.ClusterId.{ClusterId, IsCall, answer_after}
 use Rattle.dcr_cell.specs.Keeping.{IsToldAs, StandsBy}
 use Rattle.dcr_cell.specs.Stored.{CanKeep, StoreStands}
 use Rattle.dcr_cell.specs.declared.kept.Kept.{Kept}
 use Rattle.dcr_cell.proofs.RunLemmas.{no_fault_by_last}
-use Rattle.dcr_cell.proofs.StoreLemmas.{can_keep}
+use Rattle.dcr_cell.proofs.StoreLemmas.{can_keep, taped_fault}
 use Rattle.dcr_cluster.specs.Entering.{Pushed}
-use Rattle.dcr_cluster.specs.declared.halt.Halt.TheVariants.{Full}
-
--- the last entry, if there is one, is no fault
-pub ends_without : (J : List Entry) (found : Option Entry) → found ≡ slice_get J (length J - 1) → ((entry : Entry) → found ≡ Some entry → ¬ (entry.outcome ≡ Faulted)) → EndsWithoutFault J
-ends_without J found is none entry at = none entry (is ∙ at)
+use Rattle.dcr_cluster.specs.declared.halt.Halt.TheVariants.{Full, Stopped}
 
 module _ {D N : Type 0} (view : D → DiskView) (faults : D → ℕ) (c : ClusterId) (first : Option (Store D)) (capacity : ℕ) where
+  -- where a fault ends the list
+  pub pushed_stopped : (guard : GuardValue (Kept D N)) (pass : PassValue) (call : Call) (found : Outcome) (seen : ℕ) → StandsBy view faults c first guard.entries guard.kept.store
+      → ends_in_fault guard.entries ≡ true → pass.front ≡ guard.entries → seen ≡ length pass.front
+      → Pushed view faults c first capacity guard guard pass pass call found (Err (Stopped (seen - 1)))
+  pushed_stopped guard pass call found seen stands ends met is =
+      let many : seen ≡ length guard.entries = is ∙ ap length met in
+      let fault = fault_at_end guard.entries ends in
+      let below : length guard.entries - 1 < length guard.entries = slice_get_within guard.entries (length guard.entries - 1) fault.0 fault.1 in
+      record {
+        enlisted = refl;
+        front = met;
+        call_ends = record {
+          entries = refl;
+          shows = (
+            taped_fault view faults first c.old guard.entries guard.kept.store (length guard.entries - 1) fault.0 stands.stored fault.1 fault.2,
+            omega arith,
+            (fault.0, ap (λ n. slice_get guard.entries (n - 1)) many ∙ fault.1, fault.2),
+          );
+          session = refl;
+          made = refl;
+          stands = stands;
+        };
+      }
+
   -- where there is room for no entry more
   pub pushed_none : (guard : GuardValue (Kept D N)) (pass : PassValue) (call : Call) (found : Outcome) (seen spare : ℕ) → StandsBy view faults c first guard.entries guard.kept.store
       → EndsWithoutFault guard.entries → pass.front ≡ guard.entries → seen ≡ length pass.front → spare + length guard.entries ≡ capacity → spare ≡ 0

@@ -1,6 +1,5 @@
 -- What is left of a store where a cluster isn't opened.
-use Rattle.std.proofs.Common.{◌≡◌, ℕ, ◌+◌, ◌≤◌, List, [], ◌∷◌, ◌++◌, length, take, Option, Some, None, Err, refl, sym, ap, subst, ◌∙◌, arith}
-use Rattle.std.specs.Prelude.{IsErrOf, IsTrue, Result}
+use Rattle.std.proofs.Common.{◌≡◌, ℕ, ◌≤◌, List, [], ◌++◌, length, take, Some, refl, sym, ap, subst, ◌∙◌}
 use Rattle.std.proofs.lemmas.List.{append-nil, take_all}
 use Rattle.std.proofs.lemmas.List.Elements.{All-nil}
 use Rattle.dcr_base.specs.Count.{Rose}
@@ -20,7 +19,7 @@ use Rattle.dcr_tape.specs.declared.tape.Tape.{Tape}
 use Rattle.dcr_cell.specs.ClusterId.{ClusterId}
 use Rattle.dcr_cell.specs.Stored.{MayBegin, StandsForSome, StoreStands, tried_for}
 use Rattle.dcr_cluster.specs.Opening.{ArePossible, IsCause, Leaves, cause_of}
-use Rattle.dcr_cluster.specs.declared.refused.OpenCause.TheVariants.{NoMemory, BadTape, DiskFault}
+use Rattle.dcr_cluster.specs.declared.refused.OpenCause.TheVariants.{NoMemory}
 
 module _ {D : Type 0} (view : D → DiskView) (faults : D → ℕ) (old : List TapeEntry) where
   -- a renewal that was refused

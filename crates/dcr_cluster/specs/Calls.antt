@@ -50,6 +50,11 @@ abbrev pub EndsAfter : {D : Type 0} → ClusterId → Option (Store D) → ℕ �
 EndsAfter c first capacity J before after call result =
     MatchResult result (AnsweredAfter c first capacity J before after call) (HaltedAfter c first capacity J before after)
 
+-- what a call is answered that has come to its end, where this is what it was told
+abbrev pub ending : Outcome → Result (Unit {0}) Halt → Result Outcome Halt
+ending told (Ok made) = Ok told
+ending told (Err halt) = Err halt
+
 -- the event, where the call is an execution that was answered as done: that of which its participants must hear
 abbrev pub done_by : Call → Result Outcome Halt → Option ℕ
 done_by call (Ok outcome) = event_done call outcome

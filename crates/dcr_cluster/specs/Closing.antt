@@ -1,5 +1,5 @@
 -- What comes back from a cluster that was closed.
-use Rattle.std.specs.Prelude.{◌≡◌, ℕ, ◌<◌, ◌≤◌, List, length, Option}
+use Rattle.std.specs.Prelude.{◌≡◌, ℕ, ◌<◌, List, Option}
 use Rattle.std.specs.List.{All}
 use Rattle.dcr_base.specs.Disk.{DiskView}
 use Rattle.dcr_graph.specs.Cause.{waits}

@@ -1,5 +1,5 @@
 -- Which executions a cluster can go on from, and what a refusal to open one leaves.
-use Rattle.std.specs.Prelude.{◌≡◌, ℕ, ◌<◌, ◌≤◌, IsTrue, true, List, [], length, take, slice_get, Option, Some}
+use Rattle.std.specs.Prelude.{◌≡◌, ℕ, ◌<◌, ◌≤◌, IsTrue, List, length, take, slice_get, Some}
 use Rattle.dcr_base.specs.Count.{Rose}
 use Rattle.dcr_base.specs.Disk.{DiskView, LeavesOnly}
 use Rattle.dcr_graph.specs.declared.marking.Marking.{Marking}
@@ -11,7 +11,7 @@ use Rattle.dcr_tape.specs.declared.entry.TapeEntry.{TapeEntry}
 use Rattle.dcr_tape.specs.declared.tape.Store.{Store}
 use Rattle.dcr_tape.specs.declared.stop.RenewStop.{RenewStop}
 use Rattle.dcr_tape.specs.declared.stop.RenewStop.TheVariants as stop
-use Rattle.dcr_tape.specs.declared.tape.Store.TheVariants.{Off, On}
+use Rattle.dcr_tape.specs.declared.tape.Store.TheVariants.{On}
 use Rattle.dcr_cell.specs.ClusterId.{ClusterId, IsCall, marking_by}
 use Rattle.dcr_cluster.specs.declared.refused.OpenCause.{OpenCause}
 use Rattle.dcr_cluster.specs.declared.refused.OpenCause.TheVariants.{NoMemory, BadTape, DiskFault}

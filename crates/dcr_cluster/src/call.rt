@@ -3,7 +3,7 @@ ghost use Rattle.std.specs.List.{All};
 ghost use Rattle.dcr_journal.specs.declared.call.Entry.{Entry};
 ghost use Rattle.dcr_cell.specs.Asking.{sites_for, sites_of, unasked, Found};
 ghost use Rattle.dcr_cell.specs.ClusterId.{IsCall};
-ghost use Rattle.dcr_cluster.specs.Calls.{AnsweredAfter, HaltedAfter, Made, done_by};
+ghost use Rattle.dcr_cluster.specs.Calls.{AnsweredAfter, HaltedAfter, Made, done_by, ending};
 
 use crate::front_row::FrontRow;
 use crate::push::enter;
@@ -34,14 +34,12 @@ impl<D: Disk, G: Gate, N: StoreName<D>> Cluster<D, G, N> {
         ensures halted { IfErr result (HaltedAfter N.cluster N.first N.capacity pass.new.front pass.old pass.new) }
     {
         let mut fronts = FrontRow::new();
-        self.gather(
-            rt,
-            pass,
-            &mut fronts,
-            &call,
-            self.needed(&call),
-            unasked(&call),
-        )
+        let mut told = unasked(&call);
+        let needed = self.needed(&call);
+        match self.gather(rt, pass, &mut fronts, &call, needed, &mut told) {
+            Ok(()) => Ok(told),
+            Err(halt) => Err(halt),
+        }
     }
 
     // The sites whose locks the call takes.
@@ -65,7 +63,8 @@ impl<D: Disk, G: Gate, N: StoreName<D>> Cluster<D, G, N> {
     }
 
     // Takes the locks of the sites that are left, one after the other, and asks each; makes the call; and gives the
-    // locks back, the last one first.
+    // locks back, the last one first. What was found stands in one place on the way down, and what the call is told on
+    // the way back, so that no outcome is handed from one lock to the next.
     fn gather<R: Wait>(
         &self,
         rt: &R,
@@ -73,31 +72,31 @@ impl<D: Disk, G: Gate, N: StoreName<D>> Cluster<D, G, N> {
         fronts: &mut FrontRow<N>,
         call: &Call,
         left: &[SiteId],
-        found: Outcome,
-    ) -> Result<Outcome, Halt>
+        found: &mut Outcome,
+    ) -> Result<(), Halt>
         requires call { IsCall N.cluster call.now }
         requires sites { sites_of fronts.old ++ left.now ≡ sites_for N.cluster N.turn call.now }
         requires within { All (λ i. i < length N.cluster.owned) left.now }
         requires few { length fronts.old + length left.now ≤ 64 }
-        requires found { Found N.cluster call.now fronts.old found }
-        ensures { Made N.cluster N.first N.capacity N.turn pass.old pass.new fronts.old fronts.new call.now result }
+        requires found { Found N.cluster call.now fronts.old found.old }
+        ensures { Made N.cluster N.first N.capacity N.turn pass.old pass.new fronts.old fronts.new call.now (ending found.new result) }
     {
         let Some((first, rest)) = left.split_first() else {
             return self.commit(rt, pass, fronts, call, found);
         };
         let (grip, cell) = self.cells.lock(rt, first.0).split();
-        let found = cell.ask(*call, found);
+        cell.ask(call, found);
         let Cell { mut site, front } = cell;
         fronts.push(front);
-        let answer = self.gather(rt, pass, fronts, call, rest, found);
+        let ended = self.gather(rt, pass, fronts, call, rest, found);
         let Some(front) = fronts.pop() else {
             unreachable!()
         };
-        if let Some(e) = done_by(call, &answer) {
+        if let Some(e) = done_by(call, found, &ended) {
             site.apply(e);
         }
         grip.join(Cell { site, front }).unlock();
-        answer
+        ended
     }
 
     // Comes by the gate, takes the journal's lock and makes the entry.
@@ -107,20 +106,20 @@ impl<D: Disk, G: Gate, N: StoreName<D>> Cluster<D, G, N> {
         pass: &mut Pass<N>,
         fronts: &mut FrontRow<N>,
         call: &Call,
-        found: Outcome,
-    ) -> Result<Outcome, Halt>
+        found: &mut Outcome,
+    ) -> Result<(), Halt>
         requires call { IsCall N.cluster call.now }
         requires few { length fronts.old ≤ 64 }
         requires sites { sites_of fronts.old ≡ sites_for N.cluster N.turn call.now }
-        requires found { Found N.cluster call.now fronts.old found }
-        ensures { Made N.cluster N.first N.capacity N.turn pass.old pass.new fronts.old fronts.new call.now result }
+        requires found { Found N.cluster call.now fronts.old found.old }
+        ensures { Made N.cluster N.first N.capacity N.turn pass.old pass.new fronts.old fronts.new call.now (ending found.new result) }
     {
         self.gate.at(rt, pass.session(), pass.made());
         let mut guard = self.turn.lock(rt);
         guard.meet(pass);
-        let answer = enter(&mut guard, pass, fronts, call, found);
+        let ended = enter(&mut guard, pass, fronts, call, found);
         guard.unlock();
-        answer
+        ended
     }
 }
 
@@ -135,14 +134,14 @@ fn unasked(call: &Call) -> Outcome
 }
 
 // The event of an execution that was done.
-fn done_by(call: &Call, answer: &Result<Outcome, Halt>) -> Option<EventId>
-    ensures { result ≡ done_by call.now answer.now }
+fn done_by(call: &Call, told: &Outcome, ended: &Result<(), Halt>) -> Option<EventId>
+    ensures { result ≡ done_by call.now (ending told.now ended.now) }
 {
-    let Ok(outcome) = answer else {
+    let Ok(()) = ended else {
         return None;
     };
     match call {
-        Call::Exec(_, e) => match outcome {
+        Call::Exec(_, e) => match told {
             Outcome::Done => Some(*e),
             _ => None,
         },

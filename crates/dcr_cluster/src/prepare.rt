@@ -133,6 +133,7 @@ fn cells_of<N: ClusterName>(
         let Some(front) = fronts.pop() else {
             unreachable!()
         };
+        let site = Box::new(alloc, site)?;
         cells.push(Cell { site, front })?;
     }
     let row = Row::open(alloc, cells)?;

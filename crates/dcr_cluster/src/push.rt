@@ -1,6 +1,7 @@
 // What is done under the journal's lock.
 ghost use Rattle.std.specs.Prelude.{◌≤◌, ◌++◌, length};
 ghost use Rattle.dcr_cell.specs.Asking.{sites_of};
+ghost use Rattle.dcr_cluster.specs.Calls.{ending};
 ghost use Rattle.dcr_cluster.specs.Entering.{Entered, MayEnter, Pushed};
 
 use crate::Halt;
@@ -10,26 +11,27 @@ use dcr_cell::{Kept, StoreName};
 use dcr_journal::{Call, Outcome};
 use dcr_turn::{Pass, TurnGuard};
 
-/// Lays the fronts beside the journal, one after the other, makes the entry, and takes them back.
+/// Lays the fronts beside the journal, one after the other, makes the entry, and takes them back. What was found becomes
+/// what the call is told.
 pub(crate) fn enter<D: Disk, N: StoreName<D>>(
     guard: &mut TurnGuard<'_, Kept<D, N>, N>,
     pass: &mut Pass<N>,
     fronts: &mut FrontRow<N>,
     call: &Call,
-    found: Outcome,
-) -> Result<Outcome, Halt>
+    found: &mut Outcome,
+) -> Result<(), Halt>
     requires few { length fronts.old ≤ 64 }
-    requires ready { MayEnter D.view D.faults N.cluster N.first N.capacity N.turn guard.old pass.old call.now found (sites_of fronts.old ++ guard.old.enlisted) }
-    ensures { Entered D.view D.faults N.cluster N.first N.capacity N.turn guard.old guard.new pass.old pass.new fronts.old fronts.new call.now found result }
+    requires ready { MayEnter D.view D.faults N.cluster N.first N.capacity N.turn guard.old pass.old call.now found.old (sites_of fronts.old ++ guard.old.enlisted) }
+    ensures { Entered D.view D.faults N.cluster N.first N.capacity N.turn guard.old guard.new pass.old pass.new fronts.old fronts.new call.now found.old (ending found.new result) }
 {
     let Some(front) = fronts.pop() else {
         return push(guard, pass, call, found);
     };
     let site = front.site();
     guard.enlist(front);
-    let answer = enter(guard, pass, fronts, call, found);
+    let ended = enter(guard, pass, fronts, call, found);
     fronts.push(guard.dismiss(site));
-    answer
+    ended
 }
 
 // Makes the one entry of the call: as it was found, or as a fault where the tape failed to keep the execution.
@@ -37,24 +39,22 @@ fn push<D: Disk, N: StoreName<D>>(
     guard: &mut TurnGuard<'_, Kept<D, N>, N>,
     pass: &mut Pass<N>,
     call: &Call,
-    found: Outcome,
-) -> Result<Outcome, Halt>
-    requires { MayEnter D.view D.faults N.cluster N.first N.capacity N.turn guard.old pass.old call.now found guard.old.enlisted }
-    ensures { Pushed D.view D.faults N.cluster N.first N.capacity guard.old guard.new pass.old pass.new call.now found result }
+    found: &mut Outcome,
+) -> Result<(), Halt>
+    requires { MayEnter D.view D.faults N.cluster N.first N.capacity N.turn guard.old pass.old call.now found.old guard.old.enlisted }
+    ensures { Pushed D.view D.faults N.cluster N.first N.capacity guard.old guard.new pass.old pass.new call.now found.old (ending found.new result) }
 {
-    if let Some(last) = guard.last() {
-        if let Outcome::Faulted = last.outcome {
-            return Err(Halt::Stopped {
-                at: pass.seen() - 1,
-            });
-        }
+    if guard.is_faulted() {
+        return Err(Halt::Stopped {
+            at: pass.seen() - 1,
+        });
     }
     if guard.spare() == 0 {
         return Err(Halt::Full {
             capacity: pass.seen(),
         });
     }
-    let outcome = guard.kept().told(*call, found);
-    guard.push(pass, *call, outcome.copy());
-    Ok(outcome)
+    guard.kept().tell(call, found);
+    guard.push(pass, *call, found.copy());
+    Ok(())
 }

@@ -1,5 +1,4 @@
-use Rattle.std.proofs.Common.{List, subst}
-use Rattle.dcr_graph.specs.declared.marking.Marking.{Marking}
+use Rattle.std.proofs.Common.{subst}
 use Rattle.dcr_journal.specs.Run.{stepped_by}
 use Rattle.dcr_journal.specs.declared.call.Call.TheVariants.{Exec}
 use Rattle.dcr_journal.specs.declared.call.Outcome.{Outcome}

@@ -1,4 +1,4 @@
-use Rattle.std.proofs.Common.{◌≡◌, ◌+◌, ◌<◌, ◌≤◌, ℕ, true, false, List, [], ◌∷◌, length, get_or, take, Some, refl, sym, ap, subst, ◌∙◌, arith}
+use Rattle.std.proofs.Common.{◌≡◌, ◌≤◌, List, length, get_or, take, Some, sym, ap, subst, ◌∙◌, arith}
 use Rattle.std.specs.Prelude.{slice_get}
 use Rattle.std.proofs.lemmas.Bool.{false≢true}
 use Rattle.std.proofs.lemmas.Option.{slice_get-get_or}
@@ -6,7 +6,7 @@ use Rattle.dcr_site.specs.Together.{AllStand}
 use Rattle.dcr_tape.specs.declared.entry.TapeEntry.{TapeEntry}
 use Rattle.dcr_cell.specs.ClusterId.{marking_by}
 use Rattle.dcr_cluster.specs.Opening.{IsFirstBad}
-use Rattle.dcr_cluster.proofs.OpeningLemmas.{marking_all, marking_more, possible_all, possible_more, possible_none}
+use Rattle.dcr_cluster.proofs.OpeningLemmas.{marking_all, marking_more, possible_all, possible_more}
 use Rattle.dcr_cluster.proofs.going_on.go_on.Goals as goal
 
 abbrev none : TapeEntry

@@ -1,4 +1,4 @@
-use Rattle.std.proofs.Common.{◌≡◌, ◌≤◌, List, length, take}
+use Rattle.std.proofs.Common.{◌≡◌, take}
 use Rattle.dcr_proj.specs.CoverValue.{IsCovered}
 use Rattle.dcr_site.specs.Together.{AllStand}
 use Rattle.dcr_cell.specs.ClusterId.{ClusterId, marking_by}

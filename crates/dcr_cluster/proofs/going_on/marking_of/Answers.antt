@@ -1,9 +1,8 @@
-use Rattle.std.proofs.Common.{◌≡◌, ◌+◌, ◌<◌, ◌≤◌, ℕ, List, [], length, Some, refl, sym, ap, subst, ◌∙◌, arith}
-use Rattle.std.specs.Prelude.{slice_get}
+use Rattle.std.proofs.Common.{◌≡◌, ◌+◌, ◌<◌, ◌≤◌, List, [], length, refl, sym, ap, subst, ◌∙◌, arith}
 use Rattle.std.proofs.lemmas.List.{get_or_read}
 use Rattle.std.proofs.lemmas.Option.{slice_get_read}
 use Rattle.dcr_set.specs.EventSet.{Set, intersection, no_event, union}
-use Rattle.dcr_graph.specs.Projection.{FitsAtoms, HasRoom}
+use Rattle.dcr_graph.specs.Projection.{HasRoom}
 use Rattle.dcr_graph.specs.Rows.{row}
 use Rattle.dcr_graph.specs.declared.marking.Marking.{Marking}
 use Rattle.dcr_graph.specs.declared.marking.SiteMark.{SiteMark}

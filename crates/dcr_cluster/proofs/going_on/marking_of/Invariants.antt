@@ -1,4 +1,3 @@
-use Rattle.std.proofs.Common.{◌≡◌}
 use Rattle.dcr_graph.specs.Projection.{FitsAtoms}
 use Rattle.dcr_cell.specs.ClusterId.{begun}
 use Rattle.dcr_cluster.proofs.OpeningLemmas.{Has}

@@ -1,4 +1,4 @@
-use Rattle.std.proofs.Common.{◌≡◌, [], Option, Some, sym, ap, subst, ◌∙◌}
+use Rattle.std.proofs.Common.{[], Option, Some, sym, ap, subst, ◌∙◌}
 use Rattle.dcr_tape.specs.declared.tape.Store.{Store}
 use Rattle.dcr_tape.specs.declared.tape.Store.TheVariants.{On}
 use Rattle.dcr_cell.specs.Stored.{MayBegin, StoreStands}

@@ -1,13 +1,10 @@
-use Rattle.std.proofs.Common.{◌≡◌, ℕ, ◌+◌, ◌-◌, ◌<◌, ◌≤◌, List, [], ◌∷◌, ◌++◌, length, get_or, take, vec_len, Some, inl, inr, refl, sym, ap, subst, ◌∙◌, arith, length-append}
-use Rattle.std.specs.Prelude.{slice_get, map}
-use Rattle.std.specs.List.{range_with_len}
-use Rattle.std.proofs.lemmas.List.{get_or-map, length-map}
-use Rattle.std.proofs.lemmas.List.FromFn.{length-range_with_len, get_or-range_with_len}
+use Rattle.std.proofs.Common.{◌≡◌, ℕ, ◌-◌, ◌<◌, List, [], length, get_or, take, vec_len, Some, inl, inr, refl, sym, ap, subst, ◌∙◌, arith}
+use Rattle.std.specs.Prelude.{slice_get}
 use Rattle.std.proofs.lemmas.Option.{slice_get_within, slice_get-get_or}
 use Rattle.dcr_set.proofs.ListLemmas.{push_cases}
 use Rattle.dcr_graph.specs.Rows.{row}
 use Rattle.dcr_site.specs.Seen.{Seen, StandsAt}
-use Rattle.dcr_turn.specs.FrontValue.{FrontValue, new_fronts}
+use Rattle.dcr_turn.specs.FrontValue.{FrontValue}
 use Rattle.dcr_cell.specs.CellStands.{CellStands}
 use Rattle.dcr_cell.specs.ClusterId.{ClusterId, begun}
 use Rattle.dcr_cluster.proofs.PoppingLemmas.{left_long, many_new, new_at, next_is, rest_is, turned}
@@ -64,10 +61,11 @@ loop-preserved g c =
     let front_new : front ≡ new_front = sym front_is ∙ ap (λ (l : List FrontValue). get_or l k front) c.requires.fronts ∙ new_at (length C.owned) k front (omega arith) in
     let stands : StandsAt C.rules (row C.owned k) (begun C) site = c.requires.stand.each k site (subst (λ (s : Seen). slice_get c.args.sites.items k ≡ Some s) site_is (slice_get-get_or c.args.sites.items k site more)) in
     let here : CellStands C k site front = subst (CellStands C k site) (sym front_new) (record { at = refl; stands = stands }) in
+    let boxed : CellStands C k c.in_ok-site.site.value front = subst (λ (s : Seen). CellStands C k s front) (sym c.in_ok-site.ensures.ok) here in
     record {
       stand = λ place cell is.
           elim (push_cases c.loop.cells.items _ place cell (subst (λ l. slice_get l place ≡ Some cell) c.in_ok-push.ensures.items is)) [
-            | inl last ↦ subst (λ (p : ℕ). CellStands C p cell.site cell.front) (sym (last.0 ∙ c.loop.invariant.so_far)) (subst (λ (x : _). CellStands C k x.site x.front) (sym last.1) here)
+            | inl last ↦ subst (λ (p : ℕ). CellStands C p cell.site.value cell.front) (sym (last.0 ∙ c.loop.invariant.so_far)) (subst (λ (x : _). CellStands C k x.site.value x.front) (sym last.1) boxed)
             | inr old ↦ c.loop.invariant.stand place cell old
           ];
       sites = rest_is c.args.sites.items c.loop.sites.items n k refl more c.loop.invariant.sites c.pop.new.self.items (c.pop.ensures.rest ∙ ap (λ m. take (m - 1) c.loop.sites.items) c.loop.sites.ok.0);

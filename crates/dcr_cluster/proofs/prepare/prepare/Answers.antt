@@ -1,7 +1,6 @@
-use Rattle.std.proofs.Common.{◌≡◌, ◌≤◌, List, length, sym, ap, ◌∙◌, arith}
+use Rattle.std.proofs.Common.{List, length, sym, ap, ◌∙◌, arith}
 use Rattle.std.specs.List.{range_with_len}
 use Rattle.dcr_set.specs.EventSet.{Set}
-use Rattle.dcr_run.specs.SitesModel.{alphabets_in}
 use Rattle.dcr_cell.specs.ClusterId.{ClusterId, begun}
 use Rattle.dcr_cluster.proofs.OpeningLemmas.{alphabets_of_stand}
 use Rattle.dcr_cluster.proofs.prepare.prepare.Goals as goal

@@ -1,10 +1,12 @@
-use Rattle.std.proofs.Common.{◌≡◌, List, length, ◌<◌, ◌≤◌, ◌+◌, sym, ap, ◌∙◌, subst, arith}
+use Rattle.std.proofs.Common.{◌≡◌, true, List, length, ◌<◌, ◌≤◌, ◌+◌, sym, ap, ◌∙◌, subst, arith}
+use Rattle.dcr_set.specs.EventSet.{has}
+use Rattle.dcr_site.specs.Seen.{Seen, StandsAt}
 use Rattle.dcr_turn.specs.FrontValue.{FrontValue}
 use Rattle.dcr_cell.specs.Asking.{Found, sites_for, sites_of}
 use Rattle.dcr_cell.specs.CellStands.{CellStands}
 use Rattle.dcr_cell.specs.declared.cell.Cell.{Cell}
 use Rattle.dcr_cell.proofs.CellLemmas.{cell_hears}
-use Rattle.dcr_cluster.specs.Calls.{seeing}
+use Rattle.dcr_cluster.specs.Calls.{ending, seeing}
 use Rattle.dcr_cluster.proofs.EnterLemmas.{with_last, one_fewer}
 use Rattle.dcr_cluster.proofs.GatherLemmas.{all_asked, first_within, rest_within, first_there, still_left, not_empty, came_back, is_participant, left_as_is, stepped_on, made_without}
 use Rattle.dcr_cluster.proofs.cluster.Cluster.+gather.Goals.{in-Some-done_by, in_default-done_by}
@@ -22,15 +24,15 @@ commit-requires g t c = (
   ),
 )
 
-pub ask-found-requires-clause-site : goal.ask-found-requires-clause-site
-ask-found-requires-clause-site g t c =
+pub ask-requires-clause-site : goal.ask-requires-clause-site
+ask-requires-clause-site g t c =
     let at : c.split-grip.result.1.front.site ≡ c.in-Some.first.now =
     ap (λ (x : Cell g.row.N.Denot). x.front.site) c.split-grip.ensures.value ∙ c.lock.ensures.belongs.at ∙ c.first.view_is in
     subst (λ i. i < length g.N.ClusterName.cluster.owned) (sym at)
     (first_within (length g.N.ClusterName.cluster.owned) c.in-Some.first.now c.args.left.now c.in-Some.rest.now c.requires.within c.in-Some.ensures.cases.0)
 
-pub gather-answer-requires : goal.gather-answer-requires
-gather-answer-requires g t c κs within =
+pub gather-ended-requires : goal.gather-ended-requires
+gather-ended-requires g t c κs within =
     let at : c.split-grip.result.1.front.site ≡ c.in-Some.first.now =
     ap (λ (x : Cell g.row.N.Denot). x.front.site) c.split-grip.ensures.value ∙ c.lock.ensures.belongs.at ∙ c.first.view_is in
     let fewer : length c.in-Some.rest.now + 1 ≡ length c.args.left.now = c.in-Some.ensures.cases.1 in
@@ -57,7 +59,7 @@ gather-answer-requires g t c κs within =
                       rest_within (length g.N.ClusterName.cluster.owned) c.in-Some.first.now c.args.left.now c.in-Some.rest.now c.requires.within c.in-Some.ensures.cases.0,
                       (
                         omega arith,
-                        subst (λ (fronts : List FrontValue). Found g.N.ClusterName.cluster c.args.call.now fronts c.ask-found.result) (sym c.push.ensures) (c.ask-found.ensures c.args.fronts.now c.requires.found),
+                        subst (λ (fronts : List FrontValue). Found g.N.ClusterName.cluster c.args.call.now fronts c.ask.new.found) (sym c.push.ensures) (c.ask.ensures c.args.fronts.now c.requires.found),
                       ),
                     ),
                   ),
@@ -71,50 +73,52 @@ gather-answer-requires g t c κs within =
 
 pub unreachable-requires : goal.unreachable-requires
 unreachable-requires g t c =
-    not_empty c.push.new.self c.args.fronts.now c.gather-answer.new.fronts c.split-grip.result.1.front c.gather-answer.new.pass.front c.push.ensures
-    c.gather-answer.ensures.returned.fronts c.in_default-pop.ensures.value
+    not_empty c.push.new.self c.args.fronts.now c.gather-ended.new.fronts c.split-grip.result.1.front c.gather-ended.new.pass.front c.push.ensures
+    c.gather-ended.ensures.returned.fronts c.in_default-pop.ensures.value
 
 pub apply-requires : goal.apply-requires
 apply-requires g t c =
-    let stands : CellStands g.N.ClusterName.cluster c.in-Some.first.now c.split-grip.result.1.site c.split-grip.result.1.front =
-    subst (λ i. CellStands g.N.ClusterName.cluster i c.split-grip.result.1.site c.split-grip.result.1.front) c.first.view_is
-    (subst (λ (x : Cell g.row.N.Denot). CellStands g.N.ClusterName.cluster c.first.inside.0 x.site x.front) (sym c.split-grip.ensures.value) c.lock.ensures.belongs) in
-    cell_hears g.N.ClusterName.cluster g.N.TurnName.turn c.in-Some.first.now c.split-grip.result.1.site c.split-grip.result.1.front c.in-Some-done_by.e c.self.invariant.0.named
+    let stands : CellStands g.N.ClusterName.cluster c.in-Some.first.now c.split-grip.result.1.site.value c.split-grip.result.1.front =
+    subst (λ i. CellStands g.N.ClusterName.cluster i c.split-grip.result.1.site.value c.split-grip.result.1.front) c.first.view_is
+    (subst (λ (x : Cell g.row.N.Denot). CellStands g.N.ClusterName.cluster c.first.inside.0 x.site.value x.front) (sym c.split-grip.ensures.value) c.lock.ensures.belongs) in
+    subst (λ (site : Seen). has site.projection.alphabet c.in-Some-done_by.e ≡ true) (sym c.deref_mut.ensures.value)
+    (cell_hears g.N.ClusterName.cluster g.N.TurnName.turn c.in-Some.first.now c.split-grip.result.1.site.value c.split-grip.result.1.front c.in-Some-done_by.e c.self.invariant.0.named
     (first_within (length g.N.ClusterName.cluster.owned) c.in-Some.first.now c.args.left.now c.in-Some.rest.now c.requires.within c.in-Some.ensures.cases.0) stands
-    (is_participant g.N.ClusterName.cluster g.N.TurnName.turn c.args.call.now c.gather-answer.result c.in-Some-done_by.e c.in-Some.first.now (sym c.done_by.ensures ∙ c.in-Some-done_by.is)
-    (first_there (sites_of c.args.fronts.now) c.args.left.now c.in-Some.rest.now (sites_for g.N.ClusterName.cluster g.N.TurnName.turn c.args.call.now) c.in-Some.first.now c.requires.sites c.in-Some.ensures.cases.0))
+    (is_participant g.N.ClusterName.cluster g.N.TurnName.turn c.args.call.now (ending c.gather-ended.new.found c.gather-ended.result) c.in-Some-done_by.e c.in-Some.first.now (sym c.done_by.ensures ∙ c.in-Some-done_by.is)
+    (first_there (sites_of c.args.fronts.now) c.args.left.now c.in-Some.rest.now (sites_for g.N.ClusterName.cluster g.N.TurnName.turn c.args.call.now) c.in-Some.first.now c.requires.sites c.in-Some.ensures.cases.0)))
 
 pub unlock-requires : goal.unlock-requires
 unlock-requires g t c =
-    let stands : CellStands g.N.ClusterName.cluster c.in-Some.first.now c.split-grip.result.1.site c.split-grip.result.1.front =
-    subst (λ i. CellStands g.N.ClusterName.cluster i c.split-grip.result.1.site c.split-grip.result.1.front) c.first.view_is
-    (subst (λ (x : Cell g.row.N.Denot). CellStands g.N.ClusterName.cluster c.first.inside.0 x.site x.front) (sym c.split-grip.ensures.value) c.lock.ensures.belongs) in
+    let stands : CellStands g.N.ClusterName.cluster c.in-Some.first.now c.split-grip.result.1.site.value c.split-grip.result.1.front =
+    subst (λ i. CellStands g.N.ClusterName.cluster i c.split-grip.result.1.site.value c.split-grip.result.1.front) c.first.view_is
+    (subst (λ (x : Cell g.row.N.Denot). CellStands g.N.ClusterName.cluster c.first.inside.0 x.site.value x.front) (sym c.split-grip.ensures.value) c.lock.ensures.belongs) in
     let known : c.in-Some.first.now < length g.N.ClusterName.cluster.owned =
     first_within (length g.N.ClusterName.cluster.owned) c.in-Some.first.now c.args.left.now c.in-Some.rest.now c.requires.within c.in-Some.ensures.cases.0 in
-    let again : c.in-Some-pop.front ≡ seeing c.gather-answer.new.pass.front c.split-grip.result.1.front =
-    (came_back c.push.new.self c.args.fronts.now c.gather-answer.new.fronts c.pop.new.self c.split-grip.result.1.front c.in-Some-pop.front c.gather-answer.new.pass.front c.push.ensures
-    c.gather-answer.ensures.returned.fronts (with_last c.gather-answer.new.fronts c.pop.new.self c.in-Some-pop.front c.in-Some-pop.ensures.value c.in-Some-pop.ensures.rest)).1 in
-    let back : CellStands g.N.ClusterName.cluster c.in-Some.first.now c.match-done_by.site (seeing c.gather-answer.new.pass.front c.split-grip.result.1.front) = elim c.match-done_by.branch [
+    let again : c.in-Some-pop.front ≡ seeing c.gather-ended.new.pass.front c.split-grip.result.1.front =
+    (came_back c.push.new.self c.args.fronts.now c.gather-ended.new.fronts c.pop.new.self c.split-grip.result.1.front c.in-Some-pop.front c.gather-ended.new.pass.front c.push.ensures
+    c.gather-ended.ensures.returned.fronts (with_last c.gather-ended.new.fronts c.pop.new.self c.in-Some-pop.front c.in-Some-pop.ensures.value c.in-Some-pop.ensures.rest)).1 in
+    let back : CellStands g.N.ClusterName.cluster c.in-Some.first.now c.match-done_by.site.value (seeing c.gather-ended.new.pass.front c.split-grip.result.1.front) = elim c.match-done_by.branch [
       | in-Some-done_by w ↦
-          subst (λ site. CellStands g.N.ClusterName.cluster c.in-Some.first.now site (seeing c.gather-answer.new.pass.front c.split-grip.result.1.front)) (sym w.site-is)
-          (stepped_on g.N.ClusterName.cluster g.N.StoreName.first g.N.TurnName.capacity g.N.TurnName.turn c.in-Some.first.now w.in-Some-done_by.e c.split-grip.result.1.site w.apply.new.self
-          c.split-grip.result.1.front c.push.new.self c.args.fronts.now c.gather-answer.new.fronts c.args.pass.now c.gather-answer.new.pass c.args.call.now c.gather-answer.result
-          c.self.invariant.0.named known stands c.push.ensures c.gather-answer.ensures (sym c.done_by.ensures ∙ w.in-Some-done_by.is) w.apply.ensures.stepped)
+          subst (λ (site : _). CellStands g.N.ClusterName.cluster c.in-Some.first.now site.value (seeing c.gather-ended.new.pass.front c.split-grip.result.1.front)) (sym w.site-is)
+          (stepped_on g.N.ClusterName.cluster g.N.StoreName.first g.N.TurnName.capacity g.N.TurnName.turn c.in-Some.first.now w.in-Some-done_by.e c.split-grip.result.1.site.value w.apply.new.self
+          c.split-grip.result.1.front c.push.new.self c.args.fronts.now c.gather-ended.new.fronts c.args.pass.now c.gather-ended.new.pass c.args.call.now (ending c.gather-ended.new.found c.gather-ended.result)
+          c.self.invariant.0.named known stands c.push.ensures c.gather-ended.ensures (sym c.done_by.ensures ∙ w.in-Some-done_by.is)
+          (λ G S M at. w.apply.ensures.stepped G S M (subst (StandsAt G S M) (sym w.deref_mut.ensures.value) at)))
       | in_default-done_by w ↦
-          subst (λ site. CellStands g.N.ClusterName.cluster c.in-Some.first.now site (seeing c.gather-answer.new.pass.front c.split-grip.result.1.front)) (sym w.site-is)
-          (left_as_is g.N.ClusterName.cluster g.N.StoreName.first g.N.TurnName.capacity g.N.TurnName.turn c.in-Some.first.now c.split-grip.result.1.site
-          c.split-grip.result.1.front c.push.new.self c.args.fronts.now c.gather-answer.new.fronts c.args.pass.now c.gather-answer.new.pass c.args.call.now c.gather-answer.result
-          c.self.invariant.0.named known stands c.push.ensures c.gather-answer.ensures (sym c.done_by.ensures ∙ w.in_default-done_by.is))
+          subst (λ (site : _). CellStands g.N.ClusterName.cluster c.in-Some.first.now site.value (seeing c.gather-ended.new.pass.front c.split-grip.result.1.front)) (sym w.site-is)
+          (left_as_is g.N.ClusterName.cluster g.N.StoreName.first g.N.TurnName.capacity g.N.TurnName.turn c.in-Some.first.now c.split-grip.result.1.site.value
+          c.split-grip.result.1.front c.push.new.self c.args.fronts.now c.gather-ended.new.fronts c.args.pass.now c.gather-ended.new.pass c.args.call.now (ending c.gather-ended.new.found c.gather-ended.result)
+          c.self.invariant.0.named known stands c.push.ensures c.gather-ended.ensures (sym c.done_by.ensures ∙ w.in_default-done_by.is))
     ] in
     let place : c.join.result.place ≡ c.in-Some.first.now = c.join.ensures.place ∙ c.split-grip.ensures.place ∙ c.lock.ensures.place ∙ c.first.view_is in
-    subst (λ i. CellStands g.N.ClusterName.cluster i c.join.result.value.site c.join.result.value.front) (sym place)
-    (subst (λ (x : Cell g.row.N.Denot). CellStands g.N.ClusterName.cluster c.in-Some.first.now x.site x.front) (sym c.join.ensures.value)
-    (subst (λ (f : FrontValue). CellStands g.N.ClusterName.cluster c.in-Some.first.now c.match-done_by.site f) (sym again) back))
+    subst (λ i. CellStands g.N.ClusterName.cluster i c.join.result.value.site.value c.join.result.value.front) (sym place)
+    (subst (λ (x : Cell g.row.N.Denot). CellStands g.N.ClusterName.cluster c.in-Some.first.now x.site.value x.front) (sym c.join.ensures.value)
+    (subst (λ (f : FrontValue). CellStands g.N.ClusterName.cluster c.in-Some.first.now c.match-done_by.site.value f) (sym again) back))
 
 pub returns : goal.returns
 returns g t c =
-    made_without g.N.ClusterName.cluster g.N.StoreName.first g.N.TurnName.capacity g.N.TurnName.turn c.args.pass.now c.gather-answer.new.pass c.push.new.self c.args.fronts.now
-    c.gather-answer.new.fronts c.pop.new.self c.split-grip.result.1.front c.args.call.now c.gather-answer.result c.push.ensures
-    (came_back c.push.new.self c.args.fronts.now c.gather-answer.new.fronts c.pop.new.self c.split-grip.result.1.front c.in-Some-pop.front c.gather-answer.new.pass.front c.push.ensures
-    c.gather-answer.ensures.returned.fronts (with_last c.gather-answer.new.fronts c.pop.new.self c.in-Some-pop.front c.in-Some-pop.ensures.value c.in-Some-pop.ensures.rest)).0
-    c.gather-answer.ensures
+    made_without g.N.ClusterName.cluster g.N.StoreName.first g.N.TurnName.capacity g.N.TurnName.turn c.args.pass.now c.gather-ended.new.pass c.push.new.self c.args.fronts.now
+    c.gather-ended.new.fronts c.pop.new.self c.split-grip.result.1.front c.args.call.now (ending c.gather-ended.new.found c.gather-ended.result) c.push.ensures
+    (came_back c.push.new.self c.args.fronts.now c.gather-ended.new.fronts c.pop.new.self c.split-grip.result.1.front c.in-Some-pop.front c.gather-ended.new.pass.front c.push.ensures
+    c.gather-ended.ensures.returned.fronts (with_last c.gather-ended.new.fronts c.pop.new.self c.in-Some-pop.front c.in-Some-pop.ensures.value c.in-Some-pop.ensures.rest)).0
+    c.gather-ended.ensures

@@ -1,15 +1,14 @@
-use Rattle.std.proofs.Common.{◌≡◌, ℕ, ◌+◌, ◌<◌, ◌≤◌, List, [], ◌∷◌, ◌++◌, length, sym, ap, subst, ◌∙◌, arith}
-use Rattle.std.specs.List.{All, range_with_len}
+use Rattle.std.proofs.Common.{◌≡◌, ℕ, ◌+◌, [], ◌∷◌, ◌++◌, length, sym, ap, subst, ◌∙◌, arith}
+use Rattle.std.specs.List.{range_with_len}
 use Rattle.dcr_graph.specs.Rows.{row}
 use Rattle.dcr_graph.specs.declared.marking.SiteMark.{SiteMark}
-use Rattle.dcr_site.specs.Decision.{owned_waits}
-use Rattle.dcr_turn.specs.FrontValue.{FrontValue, HasMissedNone}
+use Rattle.dcr_site.specs.Seen.{Seen, StandsAt}
 use Rattle.dcr_cell.specs.Asking.{sites_of}
 use Rattle.dcr_cell.specs.CellStands.{CellStands}
 use Rattle.dcr_cell.specs.ClusterId.{ClusterId, marking_after}
 use Rattle.dcr_cell.specs.Stored.{StoreStands}
 use Rattle.dcr_cell.proofs.RunLemmas.{calls_of_run}
-use Rattle.dcr_cluster.proofs.ClosingLemmas.{GaveBack, gave_as, gave_more, marks_close, waits_close}
+use Rattle.dcr_cluster.proofs.ClosingLemmas.{gave_as, gave_more, marks_close, waits_close}
 use Rattle.dcr_cluster.proofs.cluster.Cluster.close.Goals as goal
 
 pub loop-preserved : goal.loop-preserved
@@ -17,13 +16,14 @@ loop-preserved g c =
     let C : ClusterId = g.N.ClusterName.cluster in
     let i = c.loop.counter in
     let fronts = c.loop.fronts.items in
-    let site = c.take-site.result.site in
+    let site = c.take-site.result.site.value in
     let front = c.take-site.result.front in
     let here : CellStands C i site front = subst (λ (k : ℕ). CellStands C k site front) c.loop.invariant.emptied c.take-site.ensures.belongs in
-    let waits = c.first_waiting.ensures C.rules (row C.owned i) (marking_after C front.front) here.stands in
+    let M = marking_after C front.front in
+    let waits = c.first_waiting.ensures C.rules (row C.owned i) M (subst (StandsAt C.rules (row C.owned i) M) (sym c.deref-in-loop.ensures) here.stands) in
     let more = gave_more C i fronts c.loop.marks.items c.loop.waits c.first_waiting.result site front c.loop.invariant.gave here waits in
     let fronts_now : c.push_reserved-in-loop.new.self.items ≡ fronts ++ front ∷ [] = c.push_reserved-in-loop.ensures.items in
-    let marks_now : c.push_reserved.new.self.items ≡ c.loop.marks.items ++ site.mark ∷ [] = c.push_reserved.ensures.items ∙ ap (λ (m : SiteMark). c.loop.marks.items ++ m ∷ []) c.mark.ensures in
+    let marks_now : c.push_reserved.new.self.items ≡ c.loop.marks.items ++ site.mark ∷ [] = c.push_reserved.ensures.items ∙ ap (λ (m : SiteMark). c.loop.marks.items ++ m ∷ []) (c.mark.ensures ∙ ap (λ (s : Seen). s.mark) c.deref.ensures) in
     record {
       places = c.take-site.ensures.places ∙ c.loop.invariant.places;
       emptied = c.take-site.ensures.emptied ∙ ap (λ (k : ℕ). k + 1) c.loop.invariant.emptied;

@@ -1,4 +1,4 @@
-use Rattle.std.proofs.Common.{◌≡◌, ◌≤◌, ℕ, ◌+◌, length, vec_len, vec_capacity}
+use Rattle.std.proofs.Common.{◌≡◌, ◌≤◌, length, vec_len, vec_capacity}
 use Rattle.dcr_cluster.proofs.ClosingLemmas.{GaveBack}
 use Rattle.dcr_cluster.proofs.cluster.Cluster.close.Given as goal
 

@@ -1,36 +1,37 @@
 use Rattle.std.proofs.Common.{◌++◌, arith}
 use Rattle.dcr_cell.specs.Asking.{sites_of}
+use Rattle.dcr_cluster.specs.Calls.{ending}
 use Rattle.dcr_cluster.specs.Entering.{MayEnter}
 use Rattle.dcr_cluster.proofs.CommitLemmas.{ready_met, still_stands, entered_is_made}
 use Rattle.dcr_cluster.proofs.cluster.Cluster.commit.Goals as goal
 
-pub enter-answer-requires : goal.enter-answer-requires
-enter-answer-requires g c =
-    let ready : MayEnter g.D.Disk.view g.D.Disk.faults g.N.ClusterName.cluster g.N.StoreName.first g.N.TurnName.capacity g.N.TurnName.turn c.meet.new.self c.meet.new.pass c.args.call.now c.args.found
+pub enter-ended-requires : goal.enter-ended-requires
+enter-ended-requires g c =
+    let ready : MayEnter g.D.Disk.view g.D.Disk.faults g.N.ClusterName.cluster g.N.StoreName.first g.N.TurnName.capacity g.N.TurnName.turn c.meet.new.self c.meet.new.pass c.args.call.now c.args.found.now
     (sites_of c.args.fronts.now ++ c.meet.new.self.enlisted) =
     ready_met g.D.Disk.view g.D.Disk.faults g.N.ClusterName.cluster g.N.StoreName.first g.N.TurnName.capacity g.N.TurnName.turn c.lock-guard.result c.meet.new.self c.args.pass.now
-    c.meet.new.pass c.args.fronts.now c.args.call.now c.args.found c.self.invariant.0.named c.self.invariant.0.most_entries c.requires.call c.meet.ensures.same c.lock-guard.ensures.enlisted
+    c.meet.new.pass c.args.fronts.now c.args.call.now c.args.found.now c.self.invariant.0.named c.self.invariant.0.most_entries c.requires.call c.meet.ensures.same c.lock-guard.ensures.enlisted
     c.lock-guard.ensures.kept c.meet.ensures.session c.meet.ensures.front c.meet.ensures.made c.meet.ensures.seen c.requires.sites c.requires.found in
     (omega arith, (c.requires.few, ready))
 
 pub unlock-requires-clause-kept : goal.unlock-requires-clause-kept
 unlock-requires-clause-kept g c =
-    let ready : MayEnter g.D.Disk.view g.D.Disk.faults g.N.ClusterName.cluster g.N.StoreName.first g.N.TurnName.capacity g.N.TurnName.turn c.meet.new.self c.meet.new.pass c.args.call.now c.args.found
+    let ready : MayEnter g.D.Disk.view g.D.Disk.faults g.N.ClusterName.cluster g.N.StoreName.first g.N.TurnName.capacity g.N.TurnName.turn c.meet.new.self c.meet.new.pass c.args.call.now c.args.found.now
     (sites_of c.args.fronts.now ++ c.meet.new.self.enlisted) =
     ready_met g.D.Disk.view g.D.Disk.faults g.N.ClusterName.cluster g.N.StoreName.first g.N.TurnName.capacity g.N.TurnName.turn c.lock-guard.result c.meet.new.self c.args.pass.now
-    c.meet.new.pass c.args.fronts.now c.args.call.now c.args.found c.self.invariant.0.named c.self.invariant.0.most_entries c.requires.call c.meet.ensures.same c.lock-guard.ensures.enlisted
+    c.meet.new.pass c.args.fronts.now c.args.call.now c.args.found.now c.self.invariant.0.named c.self.invariant.0.most_entries c.requires.call c.meet.ensures.same c.lock-guard.ensures.enlisted
     c.lock-guard.ensures.kept c.meet.ensures.session c.meet.ensures.front c.meet.ensures.made c.meet.ensures.seen c.requires.sites c.requires.found in
-    still_stands g.D.Disk.view g.D.Disk.faults g.N.ClusterName.cluster g.N.StoreName.first g.N.TurnName.capacity g.N.TurnName.turn c.meet.new.self c.enter-answer.new.guard c.meet.new.pass
-    c.enter-answer.new.pass c.args.fronts.now c.enter-answer.new.fronts c.args.call.now c.args.found (sites_of c.args.fronts.now ++ c.meet.new.self.enlisted) c.enter-answer.result
-    c.requires.sites c.requires.found ready c.enter-answer.ensures
+    still_stands g.D.Disk.view g.D.Disk.faults g.N.ClusterName.cluster g.N.StoreName.first g.N.TurnName.capacity g.N.TurnName.turn c.meet.new.self c.enter-ended.new.guard c.meet.new.pass
+    c.enter-ended.new.pass c.args.fronts.now c.enter-ended.new.fronts c.args.call.now c.args.found.now (sites_of c.args.fronts.now ++ c.meet.new.self.enlisted) (ending c.enter-ended.new.found c.enter-ended.result)
+    c.requires.sites c.requires.found ready c.enter-ended.ensures
 
 pub returns : goal.returns
 returns g c =
-    let ready : MayEnter g.D.Disk.view g.D.Disk.faults g.N.ClusterName.cluster g.N.StoreName.first g.N.TurnName.capacity g.N.TurnName.turn c.meet.new.self c.meet.new.pass c.args.call.now c.args.found
+    let ready : MayEnter g.D.Disk.view g.D.Disk.faults g.N.ClusterName.cluster g.N.StoreName.first g.N.TurnName.capacity g.N.TurnName.turn c.meet.new.self c.meet.new.pass c.args.call.now c.args.found.now
     (sites_of c.args.fronts.now ++ c.meet.new.self.enlisted) =
     ready_met g.D.Disk.view g.D.Disk.faults g.N.ClusterName.cluster g.N.StoreName.first g.N.TurnName.capacity g.N.TurnName.turn c.lock-guard.result c.meet.new.self c.args.pass.now
-    c.meet.new.pass c.args.fronts.now c.args.call.now c.args.found c.self.invariant.0.named c.self.invariant.0.most_entries c.requires.call c.meet.ensures.same c.lock-guard.ensures.enlisted
+    c.meet.new.pass c.args.fronts.now c.args.call.now c.args.found.now c.self.invariant.0.named c.self.invariant.0.most_entries c.requires.call c.meet.ensures.same c.lock-guard.ensures.enlisted
     c.lock-guard.ensures.kept c.meet.ensures.session c.meet.ensures.front c.meet.ensures.made c.meet.ensures.seen c.requires.sites c.requires.found in
-    entered_is_made g.D.Disk.view g.D.Disk.faults g.N.ClusterName.cluster g.N.StoreName.first g.N.TurnName.capacity g.N.TurnName.turn c.lock-guard.result c.meet.new.self c.enter-answer.new.guard
-    c.args.pass.now c.meet.new.pass c.enter-answer.new.pass c.args.fronts.now c.enter-answer.new.fronts c.args.call.now c.args.found (sites_of c.args.fronts.now ++ c.meet.new.self.enlisted)
-    c.enter-answer.result c.meet.ensures.same c.meet.ensures.seen c.meet.ensures.session c.meet.ensures.made c.requires.sites c.requires.found ready c.enter-answer.ensures
+    entered_is_made g.D.Disk.view g.D.Disk.faults g.N.ClusterName.cluster g.N.StoreName.first g.N.TurnName.capacity g.N.TurnName.turn c.lock-guard.result c.meet.new.self c.enter-ended.new.guard
+    c.args.pass.now c.meet.new.pass c.enter-ended.new.pass c.args.fronts.now c.enter-ended.new.fronts c.args.call.now c.args.found.now (sites_of c.args.fronts.now ++ c.meet.new.self.enlisted)
+    (ending c.enter-ended.new.found c.enter-ended.result) c.meet.ensures.same c.meet.ensures.seen c.meet.ensures.session c.meet.ensures.made c.requires.sites c.requires.found ready c.enter-ended.ensures

@@ -1,17 +1,10 @@
-use Rattle.std.proofs.Common.{◌≡◌, ◌<◌, ℕ, List, [], length, Option, Some, refl, sym, ap, subst, ◌∙◌}
+use Rattle.std.proofs.Common.{◌≡◌, ◌<◌, List, length, refl, sym, ap, subst, ◌∙◌}
 use Rattle.std.specs.Prelude.{Err, Ok, OnOk, Result}
 use Rattle.dcr_graph.specs.declared.marking.Marking.{Marking}
-use Rattle.dcr_proj.specs.CoverValue.{atoms_of}
-use Rattle.dcr_run.specs.SitesModel.{alphabets_in}
-use Rattle.dcr_site.specs.Seen.{Seen}
 use Rattle.dcr_site.specs.Together.{AllStand, IsOver}
 use Rattle.dcr_tape.specs.declared.entry.TapeEntry.{TapeEntry}
-use Rattle.dcr_tape.specs.declared.tape.Store.{Store}
-use Rattle.dcr_turn.specs.TurnId.{TurnId}
-use Rattle.dcr_cell.specs.ClusterId.{ClusterId, begun}
-use Rattle.dcr_cell.specs.Stored.{MayBegin, StoreStands}
-use Rattle.dcr_cluster.specs.Opening.{Leaves}
-use Rattle.dcr_cluster.specs.declared.refused.OpenCause.TheVariants.{NoMemory}
+use Rattle.dcr_cell.specs.ClusterId.{ClusterId}
+use Rattle.dcr_cell.specs.Stored.{MayBegin}
 use Rattle.dcr_cluster.proofs.OpenLemmas.{opens}
 use Rattle.dcr_cluster.proofs.StoreLemmas.{left_alone}
 use Rattle.dcr_cluster.proofs.cluster.Cluster.open.Goals as goal
