@@ -1,0 +1,8 @@
+mod CountLemmas
+pub mod TurnsLemmas
+pub mod LegalLemmas
+pub mod LawLemmas
+mod WorkedLemmas
+mod UnbegunLemmas
+mod RanLemmas
+mod NamedLemmas
