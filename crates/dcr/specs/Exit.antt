@@ -2,6 +2,7 @@
 use Rattle.std.specs.Prelude.{◌≡◌, ◌⊎◌, ℕ, List, [], Option, String}
 use Rattle.std.specs.Io.KnownBytes.{Appends}
 use Rattle.std.specs.declared.alloc.Global.{Global}
+use Rattle.dcr_base.specs.Disk.{DiskView}
 use Rattle.dcr_base.specs.Status.{code_of}
 use Rattle.dcr_base.specs.declared.status.Status.TheVariants.{NoMemory}
 use Rattle.dcr_app.specs.Answers.{Answers}
@@ -12,10 +13,13 @@ use Rattle.dcr_app.specs.declared.app.End.{End}
 abbrev pub IsUntouched : Option (List ℕ) → Option (List ℕ) → Option (List ℕ) → Option (List ℕ) → Type 0
 IsUntouched left rest had took = (rest ≡ left) × Appends had took []
 
--- The code is that of the status of an end that answers just these words, of just this input and output; or memory ran out
--- while the words were gathered, before anything was read or written. `left` and `rest` are what the input had left and has
--- left, `had` and `took` what the output had taken and has taken, where they tell that.
-pub record Exits (words : List (String Global)) (left rest had took : Option (List ℕ)) (has_ended : Type 0) (exit : ℕ) : Type 0 where
-  pub end : End
+-- The code is that of the status of an end that answers just these words, of just this input, output and disk; or memory ran
+-- out while the words were gathered, before anything was read or written, and with the disk as it was. `disk` is the disk at
+-- entry. `left` and `rest` are what the input had left and has left, `had` and `took` what the output had taken and has
+-- taken, where they tell that.
+pub record Exits {D : Type 0} (view : D → DiskView) (faults : D → ℕ) (words : List (String Global)) (disk : D) (left rest had took : Option (List ℕ))
+    (has_ended : Type 0) (exit : ℕ) : Type 0 where
+  pub end : End D
   pub code : exit ≡ code_of end.status
-  pub answers : Answers (command_in words) left has_ended had took end ⊎ ((end.status ≡ NoMemory) × IsUntouched left rest had took)
+  pub answers : Answers view faults (command_in words) disk left has_ended had took end
+      ⊎ ((end.status ≡ NoMemory) × (end.disk ≡ disk) × IsUntouched left rest had took)

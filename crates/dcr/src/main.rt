@@ -1,4 +1,4 @@
-//! The program `dcr`: standard input to standard output, and the status of the run.
+//! The program `dcr`: standard input to standard output, the tape in the current folder, and the status of the run.
 #![tactic(auto)]
 
 ghost use Rattle.std.specs.Prelude.{◌≡◌, ◌≢◌, [], IfErr, IfOk, drop};
@@ -9,31 +9,53 @@ ghost use Rattle.dcr_base.specs.Status.{code_of};
 ghost use Rattle.dcr.specs.Exit.{Exits, IsUntouched};
 
 use dcr_app::{Status, dcr};
-use dcr_base::{Sink, Source, StdSink, StdSource};
+use dcr_base::{Disk, FileDisk, Gate, OpenGate, Sink, Source, StdSink, StdSource};
 use std::alloc::Global;
 use std::io::ErrorKind;
 use std::process::ExitCode;
+use std::sync::Wait;
+use std::thread::Threads;
 use std::{env, io};
 
 fn main(rt: HostRuntime) -> ExitCode {
     let mut input = StdSource::new(rt.reader());
     let mut output = StdSink::new(io::writer(&rt));
-    program(&rt, rt.alloc(), env::args(&rt), &mut input, &mut output)
+    let Ok(files) = rt.clone() else {
+        return exit_of(Status::NoMemory);
+    };
+    let disk = FileDisk::new(rt.alloc(), files);
+    program(
+        &rt,
+        rt.alloc(),
+        env::args(&rt),
+        &mut input,
+        &mut output,
+        disk,
+        OpenGate,
+    )
 }
 
 // The whole program: the words behind the first are the command, and the process ends with the number of the status
-// that the command ends with on this input and output. Words that are no text are no command's. Where memory fails
-// while the words are gathered, it ends as for want of memory, with nothing read and nothing written.
-fn program<R, I: Source, O: Sink>(
+// that the command ends with on this input, output and disk. Words that are no text are no command's. Where memory fails
+// while the words are gathered, it ends as for want of memory, with nothing read, nothing written and no call of the disk.
+fn program<
+    I: Source,
+    O: Sink,
+    D: Disk + Drop + Send,
+    G: Gate + Drop + Sync,
+    R: Threads + Wait + Sync,
+>(
     rt: &R,
     alloc: Global,
     words: io::Result<env::Args>,
     input: &mut I,
     output: &mut O,
+    disk: D,
+    gate: G,
 ) -> ExitCode
-    ensures words { IfOk words (λ args. Exits (drop 1 (into_iter_items args)) (I.left input.old) (I.left input.new)
+    ensures words { IfOk words (λ args. Exits D.view D.faults (drop 1 (into_iter_items args)) disk (I.left input.old) (I.left input.new)
         (O.taken output.old) (O.taken output.new) (I.has_ended input.new) (exit_status result)) }
-    ensures no_text { IfErr words (λ error. error_kind error ≡ ErrorKind.InvalidData → Exits [] (I.left input.old) (I.left input.new)
+    ensures no_text { IfErr words (λ error. error_kind error ≡ ErrorKind.InvalidData → Exits D.view D.faults [] disk (I.left input.old) (I.left input.new)
         (O.taken output.old) (O.taken output.new) (I.has_ended input.new) (exit_status result)) }
     ensures no_words { IfErr words (λ error. error_kind error ≢ ErrorKind.InvalidData → exit_status result ≡ code_of Status.NoMemory) }
     ensures unread { IfErr words (λ error. error_kind error ≢ ErrorKind.InvalidData → IsUntouched (I.left input.old) (I.left input.new)
@@ -41,28 +63,36 @@ fn program<R, I: Source, O: Sink>(
 {
     match words {
         Ok(words) => match behind_first(alloc, words) {
-            Ok(words) => answer(rt, alloc, &words, input, output),
+            Ok(words) => answer(rt, alloc, &words, input, output, disk, gate),
             Err(_) => exit_of(Status::NoMemory),
         },
         Err(error) if error.kind() == ErrorKind::InvalidData => {
-            answer(rt, alloc, &[], input, output)
+            answer(rt, alloc, &[], input, output, disk, gate)
         }
         Err(_) => exit_of(Status::NoMemory),
     }
 }
 
 // Answers the words of a command.
-fn answer<R, I: Source, O: Sink>(
+fn answer<
+    I: Source,
+    O: Sink,
+    D: Disk + Drop + Send,
+    G: Gate + Drop + Sync,
+    R: Threads + Wait + Sync,
+>(
     rt: &R,
     alloc: Global,
     words: &[String],
     input: &mut I,
     output: &mut O,
+    disk: D,
+    gate: G,
 ) -> ExitCode
-    ensures { Exits words.now (I.left input.old) (I.left input.new) (O.taken output.old) (O.taken output.new)
+    ensures { Exits D.view D.faults words.now disk (I.left input.old) (I.left input.new) (O.taken output.old) (O.taken output.new)
         (I.has_ended input.new) (exit_status result) }
 {
-    let end = dcr(rt, alloc, words, input, output);
+    let end = dcr(rt, alloc, words, input, output, disk, gate);
     exit_of(end.status)
 }
 

@@ -1,3 +1,8 @@
+mod CommandLemmas
 mod OutsideLemmas
+mod DueLemmas
+mod TapeLemmas
 mod RunLemmas
+mod OverLemmas
+mod FaultlessLemmas
 mod ReplayLemmas

@@ -3,8 +3,8 @@ use Rattle.std.proofs.Common.{◌≡◌, ◌⊎◌, ℕ, ◌<◌, ◌≤◌, ◌
 use Rattle.std.specs.Io.KnownBytes.{Appends, IsAtEnd}
 use Rattle.std.proofs.lemmas.List.{append-nil, drop_all, length-replicate}
 use Rattle.dcr_base.specs.declared.status.Status.{Status}
-use Rattle.dcr_base.specs.declared.status.Status.TheVariants.{Done, Usage, Refused, ReadFault, WriteFault, NoMemory, Invalid}
-use Rattle.dcr_app.specs.declared.app.End.{End}
+use Rattle.dcr_base.specs.declared.status.Status.TheVariants.{Done, Usage, Refused, ReadFault, WriteFault, NoMemory, DiskFault, Invalid, TapeRefused}
+use Rattle.dcr_app.specs.declared.answer.Answer.{Answer}
 use Rattle.dcr_app.specs.Outside.{IsDue, IsSilent, Stopped, TookAtMost, WereLeft, Wrote}
 
 -- ---- what was read
@@ -29,28 +29,30 @@ longer_than n = let bytes : List ℕ = replicate (n + 1) 0 in let long : length 
 
 -- ---- what was written
 
-appends_nothing : (had : Option (List ℕ)) → Appends had had []
+pub appends_nothing : (had : Option (List ℕ)) → Appends had had []
 appends_nothing None = tt
 appends_nothing (Some xs) = sym (append-nil xs)
 
-abbrev pub silent_end : Status → End
+abbrev pub silent_end : Status → Answer
 silent_end status = record { status = status; closed = None }
 
-pub unread : (end : End) (had : Option (List ℕ)) → end ≡ silent_end ReadFault → IsSilent end.status had had
-unread end had is = (inl (ap (λ (e : End). e.status) is), appends_nothing had)
+pub unread : (end : Answer) (had : Option (List ℕ)) → end ≡ silent_end ReadFault → IsSilent end.status had had
+unread end had is = (inl (ap (λ (e : Answer). e.status) is), appends_nothing had)
 
-pub starved : (end : End) (had : Option (List ℕ)) → end ≡ silent_end NoMemory → IsSilent end.status had had
-starved end had is = (inr (ap (λ (e : End). e.status) is), appends_nothing had)
+pub starved : (end : Answer) (had : Option (List ℕ)) → end ≡ silent_end NoMemory → IsSilent end.status had had
+starved end had is = (inr (ap (λ (e : Answer). e.status) is), appends_nothing had)
 
-pub untold : (status : Status) (end : End) → end ≡ silent_end status → end.closed ≡ None
-untold status end is = ap (λ (e : End). e.closed) is
+pub untold : (status : Status) (end : Answer) → end ≡ silent_end status → end.closed ≡ None
+untold status end is = ap (λ (e : Answer). e.closed) is
 
 -- a text that is due was written whole
 pub whole : (due : Status) (text : List ℕ) (had took : Option (List ℕ)) → IsDue due → Appends had took text → Wrote due text due had took
 whole Done text had took is wrote = (refl, wrote)
 whole Usage text had took is wrote = (refl, wrote)
 whole Refused text had took is wrote = (refl, wrote)
+whole DiskFault text had took is wrote = (refl, wrote)
 whole Invalid text had took is wrote = (refl, wrote)
+whole TapeRefused text had took is wrote = (refl, wrote)
 whole ReadFault text had took is wrote = elim is [ ]
 whole WriteFault text had took is wrote = elim is [ ]
 whole NoMemory text had took is wrote = elim is [ ]
@@ -69,7 +71,9 @@ ends_as due text Done had took wrote = inl wrote.0
 ends_as due text Usage had took wrote = inl wrote.0
 ends_as due text Refused had took wrote = inl wrote.0
 ends_as due text ReadFault had took wrote = inl wrote.0
+ends_as due text DiskFault had took wrote = inl wrote.0
 ends_as due text Invalid had took wrote = inl wrote.0
+ends_as due text TapeRefused had took wrote = inl wrote.0
 
 -- with a status with which a text is due, all of it was written
 pub all_of : (due : Status) (text : List ℕ) (status : Status) (had took : Option (List ℕ)) → IsDue status → Wrote due text status had took
@@ -77,7 +81,9 @@ pub all_of : (due : Status) (text : List ℕ) (status : Status) (had took : Opti
 all_of due text Done had took is wrote = wrote
 all_of due text Usage had took is wrote = wrote
 all_of due text Refused had took is wrote = wrote
+all_of due text DiskFault had took is wrote = wrote
 all_of due text Invalid had took is wrote = wrote
+all_of due text TapeRefused had took is wrote = wrote
 all_of due text ReadFault had took is wrote = elim is [ ]
 all_of due text WriteFault had took is wrote = elim is [ ]
 all_of due text NoMemory had took is wrote = elim is [ ]

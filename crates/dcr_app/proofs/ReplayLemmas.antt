@@ -1,8 +1,7 @@
 -- What `replay` answers.
 use Rattle.std.proofs.Common.{◌≡◌, ◌≢◌, ◌⊎◌, ℕ, ◌<◌, ◌≤◌, List, length, Option, Some, None, IfSome, inl, inr, refl, sym, ap, subst, ◌∙◌, arith}
-use Rattle.std.specs.Io.KnownBytes.{Appends}
 use Rattle.dcr_base.specs.declared.status.Status.{Status}
-use Rattle.dcr_base.specs.declared.status.Status.TheVariants.{Done, Usage, Refused, ReadFault, WriteFault, NoMemory, Invalid}
+use Rattle.dcr_base.specs.declared.status.Status.TheVariants.{Done, Refused, ReadFault, WriteFault, NoMemory, Invalid}
 use Rattle.dcr_json.specs.declared.case.CaseStop.TheVariants.{TooLong}
 use Rattle.dcr_replay.specs.FirstWrong.{IsVerdict}
 use Rattle.dcr_replay.specs.Laws.{IsReport, ValidIsReport}
@@ -10,11 +9,10 @@ use Rattle.dcr_replay.specs.LeastWrong.{IsLeastWrong, LeastIsTold}
 use Rattle.dcr_replay.specs.OneVerdict.{VerdictIsOne}
 use Rattle.dcr_replay.specs.declared.verdict.Verdict.{Verdict}
 use Rattle.dcr_replay.specs.declared.verdict.Verdict.TheVariants as verdict
-use Rattle.dcr_replay.specs.declared.verdict.Wrong.{Wrong}
-use Rattle.dcr_app.specs.Answers.{AnswersReport, Finds, IsAnsweredReport, IsChecked, SaysInvalid, SaysValid, WroteFound, verdict_line, verdict_status}
+use Rattle.dcr_app.specs.Answers.{AnswersReport, Finds, IsAnsweredReport, SaysInvalid, SaysValid, WroteFound, verdict_line, verdict_status}
 use Rattle.dcr_app.specs.Outside.{IsDue, IsSilent, WereLeft, Wrote}
 use Rattle.dcr_app.specs.Refusal.{refusal_line}
-use Rattle.dcr_app.proofs.OutsideLemmas.{ends_as, longer_than, were_left, wrote_at}
+use Rattle.dcr_app.proofs.OutsideLemmas.{ends_as, longer_than, were_left}
 
 -- the line of a verdict is due
 pub verdict_is_due : (v : Verdict) → IsDue (verdict_status v)

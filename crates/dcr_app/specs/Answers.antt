@@ -1,13 +1,20 @@
 -- What each command answers.
-use Rattle.std.specs.Prelude.{◌≡◌, ◌≢◌, ◌⊎◌, ℕ, ◌<◌, ◌≤◌, List, [], ◌∷◌, ◌++◌, codes, decimal, length, Option, Some, None, Result, Ok, Err, IfSome}
+use Rattle.std.specs.Prelude.{◌≡◌, ◌≢◌, ◌⊎◌, ℕ, ◌<◌, ◌≤◌, Bool, true, false, IsTrue, List, [], ◌∷◌, ◌++◌, codes, decimal, length, Option, Some, None, Result, Ok, Err, IfSome}
 use Rattle.std.specs.Io.KnownBytes.{Appends}
 use Rattle.std.specs.List.{All}
+use Rattle.dcr_base.specs.Disk.{DiskView}
 use Rattle.dcr_base.specs.declared.status.Status.{Status}
-use Rattle.dcr_base.specs.declared.status.Status.TheVariants.{Done, Usage, Refused, NoMemory, Invalid}
+use Rattle.dcr_base.specs.declared.status.Status.TheVariants.{Done, Usage, Refused, NoMemory, DiskFault, Invalid, TapeRefused}
+use Rattle.dcr_journal.specs.Run.{HasNoFault, told}
 use Rattle.dcr_journal.specs.declared.call.Entry.{Entry}
 use Rattle.dcr_journal.specs.declared.call.Outcome.TheVariants as outcome
 use Rattle.dcr_journal.specs.declared.closed.Closed.{Closed}
 use Rattle.dcr_laws.specs.Laws.{IsRun, Spell, calls_for}
+use Rattle.dcr_tape.specs.Opening.{most_records}
+use Rattle.dcr_tape.specs.Tape.{StandsFor}
+use Rattle.dcr_tape.specs.declared.cause.TapeCause.{TapeCause}
+use Rattle.dcr_tape.specs.declared.entry.TapeEntry.{TapeEntry}
+use Rattle.dcr_cluster.specs.Opening.{ArePossible}
 use Rattle.dcr_json.specs.Case.{case_in}
 use Rattle.dcr_json.specs.Judged.{Spelled}
 use Rattle.dcr_json.specs.declared.case.CaseStop.{CaseStop}
@@ -19,14 +26,26 @@ use Rattle.dcr_replay.specs.Words.{word_of}
 use Rattle.dcr_replay.specs.declared.verdict.Verdict.{Verdict}
 use Rattle.dcr_replay.specs.declared.verdict.Verdict.TheVariants as verdict
 use Rattle.dcr_replay.specs.declared.verdict.Wrong.{Wrong}
-use Rattle.dcr_app.specs.Headline.{Headline, rules_in}
+use Rattle.dcr_app.specs.Headline.{Headline, cluster_in, digest_of, rules_in}
 use Rattle.dcr_app.specs.Outside.{WereLeft, Wrote, IsSilent}
 use Rattle.dcr_app.specs.Refusal.{refusal_line}
+use Rattle.dcr_app.specs.Stored.{Keeps, RefusesTape, tape_line}
 use Rattle.dcr_app.specs.declared.app.End.{End}
 use Rattle.dcr_app.specs.declared.command.Command.{Command}
 use Rattle.dcr_app.specs.declared.command.Command.TheVariants.{Run, Replay}
 
 -- ---- `run`
+
+-- A run is told: it is the headline's, and the disk has what it did. With a store it goes on from these executions, which
+-- can all be done, each after those before it.
+pub record TellsRun {D : Type 0} (view : D → DiskView) (faults : D → ℕ) (workers : ℕ) (store : Bool) (before after : D) (left : Option (List ℕ)) (has_ended : Type 0)
+    (had took : Option (List ℕ)) (status : Status) (closed : Closed) : Type 0 where
+  pub case : Spelled
+  pub old : List TapeEntry
+  pub few : length old ≤ most_records
+  pub possible : ArePossible (cluster_in case old) (length old)
+  pub headline : Headline workers store (view before) case old left has_ended had took status closed
+  pub disk : Keeps store view faults (digest_of case) old closed.history.entries before after
 
 -- the bytes that were read are no case, and the line of the first refusal was due
 pub record IsRefused (left had took : Option (List ℕ)) (status : Status) : Type 0 where
@@ -37,30 +56,69 @@ pub record IsRefused (left had took : Option (List ℕ)) (status : Status) : Typ
   pub named : why ≢ stop.NoMemory
   pub line : Wrote Refused (refusal_line why) status had took
 
--- A run that is told is the headline's. Where none is, nothing was written, or the bytes are refused.
-abbrev pub AnswersCase : Option (List ℕ) → Type 0 → Option (List ℕ) → Option (List ℕ) → Status → Option Closed → Type 0
-AnswersCase left has_ended had took status (Some closed) = Headline left has_ended had took status closed
-AnswersCase left has_ended had took status None = IsSilent status had took ⊎ IsRefused left had took status
+-- The bytes that were read are a case, and the disk, which wasn't empty, is refused as its tape: the line of a cause that
+-- stands in its content was due.
+pub record IsTapeRefused (disk : DiskView) (left had took : Option (List ℕ)) (status : Status) : Type 0 where
+  pub bytes : List ℕ
+  pub read : WereLeft left bytes
+  pub case : Spelled
+  pub spelled : case_in bytes ≡ Ok case
+  pub content : List ℕ
+  pub was : IsTrue disk.told → disk.content ≡ content
+  pub some : content ≢ []
+  pub cause : TapeCause
+  pub stands : RefusesTape case content cause
+  pub line : Wrote TapeRefused (tape_line cause) status had took
 
--- A case of a single session that spells a run of the graph, each event at a site that owns it: each of its calls was
--- answered by done.
+-- Why no run is told: the input failed or memory ran out; the bytes are refused; or, with a store, the disk failed before
+-- any call was made, or it is refused as the tape of the case. Of the first and the third nothing was written.
+pub data TellsNone (store : Bool) (disk : DiskView) (left had took : Option (List ℕ)) (status : Status) : Type 0 where
+  is_silent : IsSilent status had took → TellsNone store disk left had took status
+  is_refused : IsRefused left had took status → TellsNone store disk left had took status
+  has_failed : store ≡ true → status ≡ DiskFault → Appends had took [] → TellsNone store disk left had took status
+  is_tape_refused : store ≡ true → IsTapeRefused disk left had took status → TellsNone store disk left had took status
+
+-- A run that is told is the headline's. Where none is, nothing was written, or the bytes or the tape are refused.
+abbrev pub AnswersCase : {D : Type 0} → (D → DiskView) → (D → ℕ) → ℕ → Bool → D → D → Option (List ℕ) → Type 0 → Option (List ℕ) → Option (List ℕ) → Status
+    → Option Closed → Type 0
+AnswersCase view faults workers store before after left has_ended had took status (Some closed) =
+    TellsRun view faults workers store before after left has_ended had took status closed
+AnswersCase view faults workers store before after left has_ended had took status None = TellsNone store (view before) left had took status
+
+-- The run of a single worker in which nothing failed is the told one: the sessions one after the other. And a case of a
+-- single session that spells a run of the graph from where it begins, each event at a site that owns it, is answered by
+-- done at each of its calls, by however many workers.
+abbrev pub IsToldByOne : ℕ → Option (List ℕ) → Option Closed → Type 0
+IsToldByOne workers left told_run = IfSome left (λ bytes. (case : Spelled) → case_in bytes ≡ Ok case
+    → IfSome told_run (λ closed. workers ≡ 1 → HasNoFault closed.history.entries
+    → closed.history.entries ≡ told (rules_in case) case.cover.owned closed.opening case.sessions))
+
 abbrev pub IsDoneThroughout : Option (List ℕ) → Option Closed → Type 0
-IsDoneThroughout left told = IfSome left (λ bytes. (case : Spelled) (events : List ℕ) (executions : List (ℕ × ℕ)) → case_in bytes ≡ Ok case
-    → IsRun (rules_in case) case.opening events → Spell case.cover.owned events executions → case.sessions ≡ calls_for executions ∷ []
-    → IfSome told (λ closed. All (λ (entry : Entry). entry.outcome ≡ outcome.Done) closed.history.entries))
+IsDoneThroughout left told_run = IfSome left (λ bytes. (case : Spelled) (events : List ℕ) (executions : List (ℕ × ℕ)) → case_in bytes ≡ Ok case
+    → case.sessions ≡ calls_for executions ∷ [] → Spell case.cover.owned events executions
+    → IfSome told_run (λ closed. IsRun (rules_in case) closed.opening events → HasNoFault closed.history.entries
+    → All (λ (entry : Entry). entry.outcome ≡ outcome.Done) closed.history.entries))
 
 -- what `run` wrote with Done is the report of a legal history, so that `replay` finds it valid
 abbrev pub WroteReport : Option (List ℕ) → Option (List ℕ) → Option Closed → Type 0
-WroteReport had took told = IfSome told (λ closed. (text : List ℕ) × Appends had took text × IsReport text (length closed.history.entries))
+WroteReport had took told_run = IfSome told_run (λ closed. (text : List ℕ) × Appends had took text × IsReport text (length closed.history.entries))
 
--- what an input and an output that don't fail can end with, where these statuses are due
+-- what an input, an output and a disk that don't fail can end with, where these statuses are due
 abbrev pub IsOr : Status → Status → Type 0
 IsOr due status = (status ≡ due) ⊎ (status ≡ NoMemory)
 
--- a case is done, and other bytes are refused
-abbrev pub IsAnsweredCase : Result Spelled CaseStop → Status → Type 0
-IsAnsweredCase (Ok case) status = IsOr Done status
-IsAnsweredCase (Err why) status = IsOr Refused status
+-- A disk that is empty or stands for executions that can be done is gone on from; one that is refused as a tape is refused.
+pub record IsAnsweredTape (case : Spelled) (content : List ℕ) (status : Status) : Type 0 where
+  pub empty : content ≡ [] → IsOr Done status
+  pub goes_on : (old : List TapeEntry) → StandsFor (digest_of case) old content → length old ≤ most_records → ArePossible (cluster_in case old) (length old)
+      → IsOr Done status
+  pub refused : (cause : TapeCause) → content ≢ [] → RefusesTape case content cause → IsOr TapeRefused status
+
+-- a case is done, where its tape is not refused, and other bytes are refused
+abbrev pub IsAnsweredCase : Bool → DiskView → Result Spelled CaseStop → Status → Type 0
+IsAnsweredCase store disk (Err why) status = IsOr Refused status
+IsAnsweredCase false disk (Ok case) status = IsOr Done status
+IsAnsweredCase true disk (Ok case) status = IsTrue disk.told → IsAnsweredTape case disk.content status
 
 -- ---- `replay`
 
@@ -117,19 +175,26 @@ IsAnsweredReport bytes status =
 
 -- ---- every command
 
+-- whether the command keeps its executions in a store
+abbrev pub IsStored : Option Command → Type 0
+IsStored (Some (Run workers true)) = Unit {0}
+IsStored command = ⊥
+
 -- What the program answers: words that are no command by the line `usage`; a case file by its run or its refusal; a
--- report by its verdict. `left` is what the input had left at entry, where it tells that, and `has_ended` that it has come
--- to its end; `had` is what the output had taken at entry, and `took` what it has taken now, where it tells that.
-abbrev pub Answers : Option Command → Option (List ℕ) → Type 0 → Option (List ℕ) → Option (List ℕ) → End → Type 0
-Answers None left has_ended had took end = (end.closed ≡ None) × Wrote Usage (codes "usage\n") end.status had took
-Answers (Some Run) left has_ended had took end = AnswersCase left has_ended had took end.status end.closed
-Answers (Some Replay) left has_ended had took end = (end.closed ≡ None) × AnswersReport left had took end.status
+-- report by its verdict. `before` is the disk at entry. `left` is what the input had left at entry, where it tells that, and
+-- `has_ended` that it has come to its end; `had` is what the output had taken at entry, and `took` what it has taken now,
+-- where it tells that.
+abbrev pub Answers : {D : Type 0} → (D → DiskView) → (D → ℕ) → Option Command → D → Option (List ℕ) → Type 0 → Option (List ℕ) → Option (List ℕ) → End D → Type 0
+Answers view faults None before left has_ended had took end = (end.closed ≡ None) × Wrote Usage (codes "usage\n") end.status had took
+Answers view faults (Some (Run workers store)) before left has_ended had took end =
+    AnswersCase view faults workers store before end.disk left has_ended had took end.status end.closed
+Answers view faults (Some Replay) before left has_ended had took end = (end.closed ≡ None) × AnswersReport left had took end.status
 
 -- The line that was written says why the input is refused: the first refusal of a case that holds, or that a report has
 -- too many bytes. Words that are no command refuse nothing.
 abbrev pub Refuses : Option Command → Option (List ℕ) → Option (List ℕ) → Option (List ℕ) → Type 0
 Refuses None left had took = ⊥
-Refuses (Some Run) left had took = (bytes : List ℕ) × WereLeft left bytes
+Refuses (Some (Run workers store)) left had took = (bytes : List ℕ) × WereLeft left bytes
     × ((why : CaseStop) × (case_in bytes ≡ Err why) × (why ≢ stop.NoMemory) × Appends had took (refusal_line why))
 Refuses (Some Replay) left had took =
     IfSome left (λ bytes. 268435456 < length bytes) × Appends had took (refusal_line stop.TooLong)

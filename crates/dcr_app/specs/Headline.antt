@@ -1,42 +1,87 @@
 -- The headline: the run that `run` tells of is the journal of one run of the whole graph.
-use Rattle.std.specs.Prelude.{◌≡◌, ℕ, ◌<◌, List, [], length, slice_index_or, Option}
+use Rattle.std.specs.Prelude.{◌≡◌, ◌⊎◌, ℕ, ◌<◌, Bool, true, false, IsTrue, List, [], length, take, slice_index_or, Option}
 use Rattle.std.specs.List.{All}
+use Rattle.sha2.specs.Sha256.{sha256}
+use Rattle.dcr_base.specs.Disk.{DiskView}
 use Rattle.dcr_base.specs.declared.status.Status.{Status}
-use Rattle.dcr_base.specs.declared.status.Status.TheVariants.{Done}
+use Rattle.dcr_base.specs.declared.status.Status.TheVariants.{Done, DiskFault}
 use Rattle.dcr_graph.specs.Cause.{waits}
 use Rattle.dcr_graph.specs.Rules.{Rules}
 use Rattle.dcr_nest.specs.FlatRelation.{flat_relation}
-use Rattle.dcr_journal.specs.Run.{after, calls_of, told, marks_at, HasNoFault, IsLegal}
+use Rattle.dcr_journal.specs.Run.{after, calls_of, marks_at, HasNoFault, IsLegal}
+use Rattle.dcr_journal.specs.declared.call.Call.{Call}
 use Rattle.dcr_journal.specs.declared.call.Entry.{Entry}
 use Rattle.dcr_journal.specs.declared.closed.Closed.{Closed}
+use Rattle.dcr_tape.specs.Tape.{StandsFor}
+use Rattle.dcr_tape.specs.declared.entry.TapeEntry.{TapeEntry}
+use Rattle.dcr_cell.specs.ClusterId.{ClusterId, begun}
+use Rattle.dcr_work.specs.Order.{IsInWorkerOrder}
 use Rattle.dcr_json.specs.Judged.{Spelled}
 use Rattle.dcr_json.specs.Refusals.{SpellsCase}
-use Rattle.dcr_report.specs.Report.{report_text}
+use Rattle.dcr_report.specs.Report.{case_text, report_text}
 use Rattle.dcr_app.specs.Outside.{WereLeft, Wrote}
+
+-- ---- the case
 
 -- the rules of a case: the flat relation of its nested graph
 abbrev pub rules_in : Spelled → Rules
 rules_in case = flat_relation case.nested
 
--- The journal of one run of the whole graph, of the case that was read. `left` is what the input had left at entry, where
--- it tells that, and `has_ended` that it has come to its end; `had` is what the output had taken at entry, and `took` what
--- it has taken now, where it tells that; `status` is how the program ended.
-pub record Headline (left : Option (List ℕ)) (has_ended : Type 0) (had took : Option (List ℕ)) (status : Status) (closed : Closed) : Type 0 where
-  pub case : Spelled
+-- the digest that names a case on its tape
+abbrev pub digest_of : Spelled → List ℕ
+digest_of case = sha256 (case_text case.nested case.cover case.opening)
+
+-- the cluster of a case that goes on from these executions
+abbrev pub cluster_in : Spelled → List TapeEntry → ClusterId
+cluster_in case old = record { rules = rules_in case; owned = case.cover.owned; opening = case.opening; old = old }
+
+-- ---- the disk at entry
+
+-- the disk stood for these executions of the case with this digest, where it tells its content; for none where it was empty
+abbrev pub StoodFor : List ℕ → DiskView → List TapeEntry → Type 0
+StoodFor digest disk old = IsTrue disk.told → ((disk.content ≡ []) × (old ≡ [])) ⊎ StandsFor digest old disk.content
+
+-- the executions with which a run begins: those that the disk stood for, with a store, and none without one
+abbrev pub BeginsWith : Bool → List ℕ → DiskView → List TapeEntry → Type 0
+BeginsWith true digest disk old = StoodFor digest disk old
+BeginsWith false digest disk old = old ≡ []
+
+-- ---- the run
+
+-- the history has a beginning of each session's calls, in order, each once, and no entry of another session; where nothing
+-- failed it has them all
+pub record HasCalls (sessions : List (List Call)) (J : List Entry) : Type 0 where
+  pub all : HasNoFault J → (k : ℕ) → calls_of k J ≡ slice_index_or sessions k []
+  pub first : (k : ℕ) → (count : ℕ) × (calls_of k J ≡ take count (slice_index_or sessions k []))
+  pub no_other : All (λ (entry : Entry). entry.session < length sessions) J
+
+-- the status with which the report of a history is due: `DiskFault` exactly where an execution failed
+pub data IsDueFor (J : List Entry) (due : Status) : Type 0 where
+  all_done : HasNoFault J → due ≡ Done → IsDueFor J due
+  has_failed : ¬ HasNoFault J → due ≡ DiskFault → IsDueFor J due
+
+-- The journal of one run of the whole graph, of the case that was read, by so many workers, with a store or without one;
+-- with one it goes on from the executions `old`. `disk` is the disk at entry. `left` is what the input had left at entry,
+-- where it tells that, and `has_ended` that it has come to its end; `had` is what the output had taken at entry, and `took`
+-- what it has taken now, where it tells that; `status` is how the program ended.
+pub record Headline (workers : ℕ) (store : Bool) (disk : DiskView) (case : Spelled) (old : List TapeEntry) (left : Option (List ℕ)) (has_ended : Type 0)
+    (had took : Option (List ℕ)) (status : Status) (closed : Closed) : Type 0 where
   -- 1. The bytes that the input had left at entry spell the case, and none is left.
   pub input : (bytes : List ℕ) × WereLeft left bytes × SpellsCase bytes case × has_ended
-  -- 2. The run begins with the opening marking of the case. Its history is a run of the whole graph, in which each call
-  -- has the graph's answer at its place; with `Done` no execution failed.
-  pub history : (closed.opening ≡ case.opening)
-      × IsLegal (rules_in case) case.cover.owned case.opening closed.history.entries
-      × (status ≡ Done → HasNoFault closed.history.entries)
+  -- 2. The run begins with the opening marking of the case, stepped by the executions that the disk stood for. Its history
+  -- is a run of the whole graph, in which each call has the graph's answer at its place; with `Done`, and without a store,
+  -- no execution failed.
+  pub history : BeginsWith store (digest_of case) disk old
+      × (closed.opening ≡ begun (cluster_in case old))
+      × IsLegal (rules_in case) case.cover.owned closed.opening closed.history.entries
+      × ((status ≡ Done) ⊎ (store ≡ false) → HasNoFault closed.history.entries)
   -- 3. It has every call of each session, once and in order, and no entry of another session.
-  pub sessions : ((k : ℕ) → calls_of k closed.history.entries ≡ slice_index_or case.sessions k [])
-      × All (λ (entry : Entry). entry.session < length case.sessions) closed.history.entries
-  -- 4. The sessions go one after the other.
-  pub order : closed.history.entries ≡ told (rules_in case) case.cover.owned case.opening case.sessions
+  pub sessions : HasCalls case.sessions closed.history.entries
+  -- 4. Of two sessions of one worker every entry of the earlier one stands before every entry of the later one.
+  pub order : IsInWorkerOrder workers closed.history.entries
   -- 5. Every site's marks are the projection of the marking after the history, and the verdict is that marking's.
-  pub sites : (closed.marks ≡ marks_at (rules_in case) case.cover.owned (after (rules_in case) case.opening closed.history.entries))
-      × (closed.waits ≡ waits (rules_in case).atoms (after (rules_in case) case.opening closed.history.entries))
+  pub sites : (closed.marks ≡ marks_at (rules_in case) case.cover.owned (after (rules_in case) closed.opening closed.history.entries))
+      × (closed.waits ≡ waits (rules_in case).atoms (after (rules_in case) closed.opening closed.history.entries))
   -- 6. What the output took is the report of this history.
-  pub report : Wrote Done (report_text case.nested case.cover closed.opening closed.history.entries) status had took
+  pub report : (due : Status) × IsDueFor closed.history.entries due
+      × Wrote due (report_text case.nested case.cover closed.opening closed.history.entries) status had took

@@ -2,4 +2,5 @@ pub mod Answers
 pub mod Command
 pub mod Headline
 pub mod Outside
+pub mod Stored
 pub mod Refusal

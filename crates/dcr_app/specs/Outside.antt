@@ -2,7 +2,7 @@
 use Rattle.std.specs.Prelude.{◌≡◌, ◌⊎◌, ℕ, ◌<◌, ◌≤◌, List, [], length, take, drop, Option, Some, None, IfSome, ⊤}
 use Rattle.std.specs.Io.KnownBytes.{Appends}
 use Rattle.dcr_base.specs.declared.status.Status.{Status}
-use Rattle.dcr_base.specs.declared.status.Status.TheVariants.{Done, Usage, Refused, ReadFault, WriteFault, NoMemory, Invalid}
+use Rattle.dcr_base.specs.declared.status.Status.TheVariants.{Done, Usage, Refused, ReadFault, WriteFault, NoMemory, DiskFault, Invalid, TapeRefused}
 use Rattle.dcr_app.specs.declared.command.Command.{Command}
 use Rattle.dcr_app.specs.declared.command.Command.TheVariants.{Run, Replay}
 
@@ -19,7 +19,7 @@ TookAtMost most before after = IfSome before (λ left. (k : ℕ) × (k ≤ most)
 -- how many bytes a command reads at most: one more than its limit
 abbrev pub most_read : Option Command → ℕ
 most_read None = 0
-most_read (Some Run) = 16777217
+most_read (Some (Run workers store)) = 16777217
 most_read (Some Replay) = 268435457
 
 -- ---- what was written
@@ -41,12 +41,14 @@ Wrote due text status had took = (status ≡ due) × Appends had took text
 abbrev pub IsSilent : Status → Option (List ℕ) → Option (List ℕ) → Type 0
 IsSilent status had took = ((status ≡ ReadFault) ⊎ (status ≡ NoMemory)) × Appends had took []
 
--- the statuses with which a text is due
+-- the statuses with which a text may be due
 abbrev pub IsDue : Status → Type 0
 IsDue Done = ⊤
 IsDue Usage = ⊤
 IsDue Refused = ⊤
+IsDue DiskFault = ⊤
 IsDue Invalid = ⊤
+IsDue TapeRefused = ⊤
 IsDue ReadFault = ⊥
 IsDue WriteFault = ⊥
 IsDue NoMemory = ⊥

@@ -1,6 +1,7 @@
 //! The top call: a case file in, its report out; or a report in, its verdict out.
 #![tactic(auto)]
 
+mod answer;
 mod app;
 mod command;
 mod lines;
@@ -8,6 +9,7 @@ mod refusal;
 mod replay;
 mod run;
 mod say;
+mod stored;
 
 pub use app::{End, dcr};
 pub use dcr_base::Status;

@@ -5,7 +5,7 @@ ghost use Rattle.dcr_base.specs.Count.{Rose};
 ghost use Rattle.dcr_app.specs.Answers.{AnswersReport, verdict_line, verdict_status};
 ghost use Rattle.dcr_app.specs.Outside.{TookAtMost};
 
-use crate::End;
+use crate::answer::Answer;
 use crate::lines::{numbered, numbered_word};
 use crate::say::{refuse, say, silent};
 use dcr_base::{ReadStop, Sink, Source, Status, read_all};
@@ -18,7 +18,7 @@ use std::alloc::Global;
 const MAX_BYTES: usize = 268_435_456;
 
 /// Reads a report to its end and tells its verdict.
-pub(crate) fn replay<I: Source, O: Sink>(alloc: Global, input: &mut I, output: &mut O) -> End
+pub(crate) fn replay<I: Source, O: Sink>(alloc: Global, input: &mut I, output: &mut O) -> Answer
     ensures closed { result.closed ≡ None }
     ensures answers { AnswersReport (I.left input.old) (O.taken output.old) (O.taken output.new) result.status }
     ensures asked { TookAtMost 268435457 (I.left input.old) (I.left input.new) }
@@ -40,7 +40,7 @@ pub(crate) fn replay<I: Source, O: Sink>(alloc: Global, input: &mut I, output: &
 }
 
 // Tells the verdict of a text within the limit.
-fn replay_bytes<O: Sink>(alloc: Global, bytes: &[u8], output: &mut O) -> End
+fn replay_bytes<O: Sink>(alloc: Global, bytes: &[u8], output: &mut O) -> Answer
     requires { length bytes.now ≤ 268435456 }
     ensures closed { result.closed ≡ None }
     ensures answers { AnswersReport (Some bytes.now) (O.taken output.old) (O.taken output.new) result.status }

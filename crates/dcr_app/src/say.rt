@@ -3,25 +3,29 @@ ghost use Rattle.std.specs.Prelude.{◌≡◌, ◌≢◌, ◌≤◌, ◌⊎◌, 
 ghost use Rattle.dcr_base.specs.Count.{Rose};
 ghost use Rattle.dcr_app.specs.Outside.{IsDue, IsSilent, Wrote};
 ghost use Rattle.dcr_app.specs.Refusal.{refusal_line};
+ghost use Rattle.dcr_app.specs.Stored.{EndsFor};
+ghost use Rattle.dcr_tape.specs.Opening.{IsShown};
 
-use crate::End;
+use crate::answer::Answer;
+use crate::lines::numbered;
 use crate::refusal::line_of;
 use dcr_base::{Sink, Status, write_all};
 use dcr_json::CaseStop;
+use dcr_tape::TapeCause;
 use std::alloc::Global;
 
-/// An end without a run.
-pub(crate) fn silent(status: Status) -> End
+/// An answer without a run.
+pub(crate) fn silent(status: Status) -> Answer
     ensures { result ≡ record { status = status; closed = None } }
 {
-    End {
+    Answer {
         status,
         closed: None,
     }
 }
 
 /// Writes a line that tells of no run.
-pub(crate) fn say<O: Sink>(output: &mut O, line: &[u8], status: Status) -> End
+pub(crate) fn say<O: Sink>(output: &mut O, line: &[u8], status: Status) -> Answer
     requires { IsDue status }
     ensures closed { result.closed ≡ None }
     ensures wrote { Wrote status line.now result.status (O.taken output.old) (O.taken output.new) }
@@ -38,7 +42,7 @@ pub(crate) fn say<O: Sink>(output: &mut O, line: &[u8], status: Status) -> End
 
 /// Tells a refusal. Nothing is written where it is want of memory, or where memory could not be had for the line. The
 /// line of a file that is too long needs none.
-pub(crate) fn refuse<O: Sink>(alloc: Global, output: &mut O, stop: CaseStop) -> End
+pub(crate) fn refuse<O: Sink>(alloc: Global, output: &mut O, stop: CaseStop) -> Answer
     ensures closed { result.closed ≡ None }
     ensures wrote { stop ≢ CaseStop.NoMemory
         → IsSilent result.status (O.taken output.old) (O.taken output.new)
@@ -60,7 +64,7 @@ pub(crate) fn refuse<O: Sink>(alloc: Global, output: &mut O, stop: CaseStop) -> 
 }
 
 // Tells a refusal other than want of memory, by a line that is put together.
-fn refuse_with<O: Sink>(alloc: Global, output: &mut O, stop: CaseStop) -> End
+fn refuse_with<O: Sink>(alloc: Global, output: &mut O, stop: CaseStop) -> Answer
     ensures closed { result.closed ≡ None }
     ensures wrote { IsSilent result.status (O.taken output.old) (O.taken output.new)
         ⊎ Wrote Status.Refused (refusal_line stop) result.status (O.taken output.old) (O.taken output.new) }
@@ -73,5 +77,31 @@ fn refuse_with<O: Sink>(alloc: Global, output: &mut O, stop: CaseStop) -> End
     match line_of(alloc, &stop) {
         Ok(line) => say(output, &line, Status::Refused),
         Err(_) => silent(Status::NoMemory),
+    }
+}
+
+/// Tells why a disk is refused as the tape of a case. Nothing is written where the disk failed or memory ran out, or where
+/// memory could not be had for the line.
+pub(crate) fn refuse_tape<O: Sink>(alloc: Global, output: &mut O, cause: TapeCause) -> Answer
+    ensures closed { result.closed ≡ None }
+    ensures ends { EndsFor cause result.status (O.taken output.old) (O.taken output.new) }
+    ensures refused { result.status ≢ Status.Done }
+    ensures read { result.status ≢ Status.ReadFault }
+    ensures disk { result.status ≡ Status.DiskFault → cause ≡ TapeCause.DiskFault }
+    ensures shown { result.status ≡ Status.TapeRefused → IsShown cause }
+    ensures counted { result.status ≡ Status.WriteFault → Rose (O.write_faults output.old) (O.write_faults output.new) }
+    ensures no_fault { result.status ≢ Status.WriteFault → O.write_faults output.new ≡ O.write_faults output.old }
+    ensures never_falls { O.write_faults output.old ≤ O.write_faults output.new }
+{
+    match cause {
+        TapeCause::DiskFault => silent(Status::DiskFault),
+        TapeCause::NoMemory => silent(Status::NoMemory),
+        TapeCause::NotTape => say(output, b"tape not-tape\n", Status::TapeRefused),
+        TapeCause::OtherGraph { .. } => say(output, b"tape other-case\n", Status::TapeRefused),
+        TapeCause::Long => say(output, b"tape long\n", Status::TapeRefused),
+        TapeCause::BadTape { at } => match numbered(alloc, b"tape bad ", at) {
+            Ok(line) => say(output, &line, Status::TapeRefused),
+            Err(_) => silent(Status::NoMemory),
+        },
     }
 }

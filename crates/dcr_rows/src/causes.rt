@@ -300,7 +300,7 @@ end 5
 
 #[test]
 fn each_cause_blocks_and_ends(rt: HostRuntime) -> Result<(), Fail> {
-    let wrong = first_wrong(&rt, &ROWS)?;
+    let wrong = first_wrong(&rt, rt.alloc(), &ROWS)?;
     assert_eq!(rt; wrong.as_str(), "");
     Ok(())
 }

@@ -310,7 +310,7 @@ end 8
 
 #[test]
 fn each_execution_has_its_effects(rt: HostRuntime) -> Result<(), Fail> {
-    let wrong = first_wrong(&rt, &ROWS)?;
+    let wrong = first_wrong(&rt, rt.alloc(), &ROWS)?;
     assert_eq!(rt; wrong.as_str(), "");
     Ok(())
 }

@@ -3,7 +3,9 @@ use crate::whole::answer;
 use dcr_app::Status;
 use std::alloc::Global;
 use std::fmt::Write;
+use std::sync::Wait;
 use std::test::Fail;
+use std::thread::Threads;
 
 // So many pieces, in which `#` stands for the number of each, and a last one, in which `@` stands for 200,000 letters.
 type Many = (u32, &'static str, &'static str);
@@ -276,16 +278,20 @@ fn file(alloc: Global, row: &Row) -> Result<String, Fail> {
 }
 
 // The line of the first row that gets another one; empty where each gets its own.
-fn first_wrong(rt: &HostRuntime, rows: &[Row]) -> Result<String, Fail> {
+fn first_wrong<R: Threads + Wait + Sync>(
+    rt: &R,
+    alloc: Global,
+    rows: &[Row],
+) -> Result<String, Fail> {
     for row in rows {
-        let file = file(rt.alloc(), row)?;
-        let (status, written) = answer(rt, &["run"], file.as_bytes())?;
-        let want = format!(in rt.alloc(); "refused {}\n", row.line)?;
+        let file = file(alloc, row)?;
+        let (status, written) = answer(rt, alloc, &["run"], file.as_bytes())?;
+        let want = format!(in alloc; "refused {}\n", row.line)?;
         if status != Status::Refused || written.as_slice() != want.as_bytes() {
-            return Ok(String::from_str(rt.alloc(), row.line)?);
+            return Ok(String::from_str(alloc, row.line)?);
         }
     }
-    Ok(String::new(rt.alloc()))
+    Ok(String::new(alloc))
 }
 
 #[test]
@@ -296,7 +302,7 @@ fn the_last_event_is_refused(rt: HostRuntime) -> Result<(), Fail> {
             line,
             ..MOST
         }];
-        assert_eq!(rt; first_wrong(&rt, &rows)?.as_str(), "");
+        assert_eq!(rt; first_wrong(&rt, rt.alloc(), &rows)?.as_str(), "");
     }
     Ok(())
 }
@@ -309,20 +315,20 @@ fn the_last_relation_is_refused(rt: HostRuntime) -> Result<(), Fail> {
             line,
             ..MOST
         }];
-        assert_eq!(rt; first_wrong(&rt, &rows)?.as_str(), "");
+        assert_eq!(rt; first_wrong(&rt, rt.alloc(), &rows)?.as_str(), "");
     }
     Ok(())
 }
 
 #[test]
 fn the_last_site_is_refused(rt: HostRuntime) -> Result<(), Fail> {
-    assert_eq!(rt; first_wrong(&rt, &COVERS)?.as_str(), "");
+    assert_eq!(rt; first_wrong(&rt, rt.alloc(), &COVERS)?.as_str(), "");
     Ok(())
 }
 
 #[test]
 fn the_last_call_is_refused(rt: HostRuntime) -> Result<(), Fail> {
-    assert_eq!(rt; first_wrong(&rt, &CALLS)?.as_str(), "");
+    assert_eq!(rt; first_wrong(&rt, rt.alloc(), &CALLS)?.as_str(), "");
     Ok(())
 }
 
@@ -347,7 +353,7 @@ fn a_text_above_its_limit_is_told(rt: HostRuntime) -> Result<(), Fail> {
         bytes.extend_from_slice(word.as_bytes())?;
         bytes.extend_from_slice(&long)?;
         bytes.push(b'\n')?;
-        let (status, written) = answer(&rt, &["replay"], &bytes)?;
+        let (status, written) = answer(&rt, rt.alloc(), &["replay"], &bytes)?;
         assert_eq!(rt; status, Status::Invalid, "{told}");
         let want = format!(in rt.alloc(); "invalid {told}\n")?;
         assert_eq!(rt; written.as_slice(), want.as_bytes(), "{told}");
@@ -372,7 +378,7 @@ fn the_last_entry_of_many_is_told(rt: HostRuntime) -> Result<(), Fail> {
     for (last, told) in LAST_LINES {
         let ends = "site x executed - pending a included a\nverdict waits a\nend 200000\n";
         let text = format!(in rt.alloc(); "{entries}{last}{ends}")?;
-        let (status, written) = answer(&rt, &["replay"], text.as_bytes())?;
+        let (status, written) = answer(&rt, rt.alloc(), &["replay"], text.as_bytes())?;
         assert_eq!(rt; status, Status::Invalid, "{told}");
         let want = format!(in rt.alloc(); "invalid {told}\n")?;
         assert_eq!(rt; written.as_slice(), want.as_bytes(), "{told}");

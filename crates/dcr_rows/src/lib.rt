@@ -19,3 +19,7 @@ mod replays;
 mod small;
 #[cfg(test)]
 mod whole;
+#[cfg(test)]
+mod words;
+#[cfg(test)]
+mod workers;

@@ -78,7 +78,7 @@ fn limits_are_exact(rt: HostRuntime) -> Result<(), Fail> {
         ),
     ] {
         let text = case_text(rt.alloc(), events, relations, sites, calls)?;
-        let (status, written) = answer(&rt, &["run"], text.as_bytes())?;
+        let (status, written) = answer(&rt, rt.alloc(), &["run"], text.as_bytes())?;
         if refused.is_empty() {
             let end = format!(in rt.alloc(); "\nend {calls}\n")?;
             assert_eq!(rt; status, Status::Done, "{row}");
@@ -101,7 +101,7 @@ fn names_have_at_most_64_bytes(rt: HostRuntime) -> Result<(), Fail> {
         let text = format!(in rt.alloc();
             "{{\"graph\":{{\"events\":[{{\"name\":\"{name}\"}}]}},\"cover\":[{{\"site\":\"x\",\"events\":[\"{name}\"]}}]}}"
         )?;
-        let (status, _) = answer(&rt, &["run"], text.as_bytes())?;
+        let (status, _) = answer(&rt, rt.alloc(), &["run"], text.as_bytes())?;
         assert_eq!(rt; status == Status::Done, is_within, "{length} bytes");
     }
     Ok(())
@@ -115,10 +115,10 @@ fn files_have_at_most_16_mib(rt: HostRuntime) -> Result<(), Fail> {
     for _ in text.len()..16_777_216 {
         bytes.push(b' ')?;
     }
-    let (status, _) = answer(&rt, &["run"], &bytes)?;
+    let (status, _) = answer(&rt, rt.alloc(), &["run"], &bytes)?;
     assert_eq!(rt; status, Status::Done);
     bytes.push(b' ')?;
-    let (status, written) = answer(&rt, &["run"], &bytes)?;
+    let (status, written) = answer(&rt, rt.alloc(), &["run"], &bytes)?;
     assert_eq!(rt; status, Status::Refused);
     assert_eq!(rt; written.as_slice(), "refused 1 too-long\n".as_bytes());
     Ok(())
@@ -127,11 +127,11 @@ fn files_have_at_most_16_mib(rt: HostRuntime) -> Result<(), Fail> {
 #[test]
 fn reports_have_at_most_256_mib(rt: HostRuntime) -> Result<(), Fail> {
     let mut bytes = vec![in rt.alloc(); b' '; 268_435_456]?;
-    let (status, written) = answer(&rt, &["replay"], &bytes)?;
+    let (status, written) = answer(&rt, rt.alloc(), &["replay"], &bytes)?;
     assert_eq!(rt; status, Status::Invalid);
     assert_eq!(rt; written.as_slice(), "invalid 1 head\n".as_bytes());
     bytes.push(b' ')?;
-    let (status, written) = answer(&rt, &["replay"], &bytes)?;
+    let (status, written) = answer(&rt, rt.alloc(), &["replay"], &bytes)?;
     assert_eq!(rt; status, Status::Refused);
     assert_eq!(rt; written.as_slice(), "refused 1 too-long\n".as_bytes());
     Ok(())

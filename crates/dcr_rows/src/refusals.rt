@@ -152,7 +152,7 @@ const ROWS: [(&str, &str); 41] = [
 #[test]
 fn each_wrong_file_gets_its_line(rt: HostRuntime) -> Result<(), Fail> {
     for (file, line) in &ROWS {
-        let (status, written) = answer(&rt, &["run"], file.as_bytes())?;
+        let (status, written) = answer(&rt, rt.alloc(), &["run"], file.as_bytes())?;
         assert_eq!(rt; status, Status::Refused, "{file}");
         let want = format!(in rt.alloc(); "{line}\n")?;
         assert_eq!(rt; written.as_slice(), want.as_bytes(), "{file}");
@@ -162,7 +162,7 @@ fn each_wrong_file_gets_its_line(rt: HostRuntime) -> Result<(), Fail> {
 
 #[test]
 fn bytes_that_are_no_text_are_refused(rt: HostRuntime) -> Result<(), Fail> {
-    let (status, written) = answer(&rt, &["run"], b"\"\xff\"")?;
+    let (status, written) = answer(&rt, rt.alloc(), &["run"], b"\"\xff\"")?;
     assert_eq!(rt; status, Status::Refused);
     assert_eq!(rt; written.as_slice(), "refused 2 not-json\n".as_bytes());
     Ok(())

@@ -113,7 +113,7 @@ const ENDS: [Row; 16] = [
 fn each_report_is_valid(rt: HostRuntime) -> Result<(), Fail> {
     for row in ROWS.iter().chain([hospital()]) {
         let (_, count) = row.report.split_once("\nend ").unwrap_or(("", ""));
-        let (status, written) = answer(&rt, &["replay"], row.report.as_bytes())?;
+        let (status, written) = answer(&rt, rt.alloc(), &["replay"], row.report.as_bytes())?;
         assert_eq!(rt; status, Status::Done, "{}", row.name);
         let want = format!(in rt.alloc(); "valid {count}")?;
         assert_eq!(rt; written.as_slice(), want.as_bytes(), "{}", row.name);
@@ -130,7 +130,7 @@ fn each_wrong_line_is_told(rt: HostRuntime) -> Result<(), Fail> {
             "{old} stands in the report"
         );
         let text = format!(in rt.alloc(); "{front}{new}{rest}")?;
-        let (status, written) = answer(&rt, &["replay"], text.as_bytes())?;
+        let (status, written) = answer(&rt, rt.alloc(), &["replay"], text.as_bytes())?;
         assert_eq!(rt; status, Status::Invalid, "{old} by {new}");
         let want = format!(in rt.alloc(); "invalid {told}\n")?;
         assert_eq!(rt; written.as_slice(), want.as_bytes(), "{old} by {new}");
@@ -140,7 +140,7 @@ fn each_wrong_line_is_told(rt: HostRuntime) -> Result<(), Fail> {
 
 #[test]
 fn no_text_has_no_head(rt: HostRuntime) -> Result<(), Fail> {
-    let (status, written) = answer(&rt, &["replay"], b"")?;
+    let (status, written) = answer(&rt, rt.alloc(), &["replay"], b"")?;
     assert_eq!(rt; status, Status::Invalid);
     assert_eq!(rt; written.as_slice(), "invalid 1 head\n".as_bytes());
     Ok(())
@@ -153,7 +153,7 @@ fn a_graph_is_of_its_version(rt: HostRuntime) -> Result<(), Fail> {
     for row in &ROWS {
         if let Some((_, rest)) = row.report.split_once("dcr 2\n") {
             let text = format!(in rt.alloc(); "dcr 1\n{rest}")?;
-            let (status, written) = answer(&rt, &["replay"], text.as_bytes())?;
+            let (status, written) = answer(&rt, rt.alloc(), &["replay"], text.as_bytes())?;
             assert_eq!(rt; status, Status::Invalid, "{}", row.name);
             assert_eq!(rt;
                 written.as_slice(),

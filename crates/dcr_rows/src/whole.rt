@@ -1,7 +1,11 @@
 // Whole cases and their whole reports.
 use dcr_app::{Status, dcr};
-use dcr_base::{StdSink, StdSource};
+use dcr_base::{Gate, OpenGate, StdSink, StdSource};
+use dcr_fakes::MemDisk;
+use std::alloc::{AllocError, Global};
+use std::sync::Wait;
 use std::test::Fail;
+use std::thread::Threads;
 
 // A case file and the report that it gives.
 pub(crate) struct Whole {
@@ -283,27 +287,54 @@ pub(crate) fn hospital() -> &'static Whole {
     &HOSPITAL
 }
 
-// How the program ends on these words and bytes, and what it writes.
-pub(crate) fn answer(
-    rt: &HostRuntime,
+// The words of a command line.
+pub(crate) fn words_of(alloc: Global, words: &[&str]) -> Result<Vec<String>, AllocError> {
+    let mut all = Vec::new(alloc);
+    for word in words {
+        all.push(String::from_str(alloc, *word)?)?;
+    }
+    Ok(all)
+}
+
+// An empty disk, of which no call fails.
+pub(crate) fn empty_disk(alloc: Global) -> MemDisk {
+    MemDisk::new(alloc, Vec::new(alloc), Vec::new(alloc))
+}
+
+// How the program ends on these words and bytes, and what it writes. That it calls the disk is a failure.
+pub(crate) fn answer<R: Threads + Wait + Sync>(
+    rt: &R,
+    alloc: Global,
     words: &[&str],
     bytes: &[u8],
 ) -> Result<(Status, Vec<u8>), Fail> {
-    let mut all = Vec::new(rt.alloc());
-    for word in words {
-        all.push(String::from_str(rt.alloc(), *word)?)?;
-    }
+    answer_at(rt, alloc, words, bytes, OpenGate)
+}
+
+// The same, where the calls pass this gate.
+pub(crate) fn answer_at<G: Gate + Drop + Sync, R: Threads + Wait + Sync>(
+    rt: &R,
+    alloc: Global,
+    words: &[&str],
+    bytes: &[u8],
+    gate: G,
+) -> Result<(Status, Vec<u8>), Fail> {
+    let words = words_of(alloc, words)?;
     let mut input = StdSource::new(bytes);
     // With its room taken at first, the sink of a small report doesn't fail for want of memory.
-    let mut output = StdSink::new(Vec::with_capacity(rt.alloc(), 4096)?);
-    let end = dcr(rt, rt.alloc(), &all, &mut input, &mut output);
+    let mut output = StdSink::new(Vec::with_capacity(alloc, 4096)?);
+    let disk = empty_disk(alloc);
+    let end = dcr(rt, alloc, &words, &mut input, &mut output, disk, gate);
+    if !end.disk.calls().is_empty() {
+        return Err(Fail::from("the disk was called"));
+    }
     Ok((end.status, output.into_inner()))
 }
 
 #[test]
 fn each_row_gives_its_report(rt: HostRuntime) -> Result<(), Fail> {
     for row in ROWS.iter().chain([&HOSPITAL]) {
-        let (status, written) = answer(&rt, &["run"], row.file.as_bytes())?;
+        let (status, written) = answer(&rt, rt.alloc(), &["run"], row.file.as_bytes())?;
         assert_eq!(rt; status, Status::Done, "{}", row.name);
         assert_eq!(rt; written.as_slice(), row.report.as_bytes(), "{}", row.name);
     }
@@ -311,26 +342,9 @@ fn each_row_gives_its_report(rt: HostRuntime) -> Result<(), Fail> {
 }
 
 #[test]
-fn other_words_are_answered_by_usage(rt: HostRuntime) -> Result<(), Fail> {
-    for words in [
-        &[][..],
-        &["Run"],
-        &["run", "run"],
-        &["replay", "run"],
-        &["--help"],
-        &[""],
-    ] {
-        let (status, written) = answer(&rt, words, ROWS[0].file.as_bytes())?;
-        assert_eq!(rt; status, Status::Usage);
-        assert_eq!(rt; written.as_slice(), "usage\n".as_bytes());
-    }
-    Ok(())
-}
-
-#[test]
 fn want_of_memory_leaves_a_front_of_the_report(rt: HostRuntime) -> Result<(), Fail> {
     let report = ROWS[0].report.as_bytes();
-    let (status, written) = answer(&rt, &["run"], ROWS[0].file.as_bytes())?;
+    let (status, written) = answer(&rt, rt.alloc(), &["run"], ROWS[0].file.as_bytes())?;
     if status == Status::Done {
         assert_eq!(rt; written.as_slice(), report);
     } else {

@@ -15,5 +15,6 @@ appends_nothing (Some xs) = sym (append-nil xs)
 pub returns-in-Err-behind_first-clause-words : goal.returns-in-Err-behind_first-clause-words
 returns-in-Err-behind_first-clause-words g c =
     let left = g.I.Source.left c.args.input.now in let had = g.O.Sink.taken c.args.output.now in let code = exit_status c.exit_of.result in
-    subst (λ words. IfOk words (λ args. Exits (drop 1 (into_iter_items args)) left left had had (g.I.Source.has_ended c.args.input.now) code)) (sym c.in-Ok.is)
-    (record { end = record { status = NoMemory; closed = None }; code = c.exit_of.ensures; answers = inr (refl, (refl, appends_nothing had)) })
+    let view = g.D.Disk.view in let faults = g.D.Disk.faults in
+    subst (λ words. IfOk words (λ args. Exits view faults (drop 1 (into_iter_items args)) c.args.disk left left had had (g.I.Source.has_ended c.args.input.now) code)) (sym c.in-Ok.is)
+    (record { end = record { status = NoMemory; closed = None; disk = c.args.disk }; code = c.exit_of.ensures; answers = inr (refl, refl, (refl, appends_nothing had)) })

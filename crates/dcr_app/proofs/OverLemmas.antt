@@ -1,0 +1,283 @@
+-- What a run over a store answers, without a tape and over one that was opened.
+use Rattle.std.proofs.Common.{◌≡◌, ◌≢◌, ◌⊎◌, ℕ, ◌≤◌, arith, true, false, IsTrue, List, [], length, Option, Some, None, Ok, inl, inr, refl, sym, ap, subst, ◌∙◌}
+use Rattle.std.specs.Prelude.{⊤, slice_get}
+use Rattle.dcr_base.specs.Count.{Rose}
+use Rattle.dcr_base.specs.Disk.{DiskView}
+use Rattle.dcr_base.specs.declared.status.Status.{Status}
+use Rattle.dcr_base.specs.declared.status.Status.TheVariants.{ReadFault, NoMemory, DiskFault, TapeRefused}
+use Rattle.dcr_journal.specs.Run.{HasNoFault}
+use Rattle.dcr_journal.specs.declared.call.Entry.{Entry}
+use Rattle.dcr_journal.specs.declared.closed.Closed.{Closed}
+use Rattle.dcr_tape.specs.Found.{CountsFaultOf}
+use Rattle.dcr_tape.specs.Kept.{part_of}
+use Rattle.dcr_tape.specs.Laws.{OneList}
+use Rattle.dcr_tape.specs.Opening.{Opened, IsShown}
+use Rattle.dcr_tape.specs.Opening.{Refused as NotOpened}
+use Rattle.dcr_tape.specs.declared.cause.TapeCause.{TapeCause}
+use Rattle.dcr_tape.specs.declared.cause.TapeCause.TheVariants as cause
+use Rattle.dcr_tape.specs.declared.entry.TapeEntry.{TapeEntry}
+use Rattle.dcr_tape.specs.declared.tape.Store.{Store}
+use Rattle.dcr_tape.specs.declared.tape.Store.TheVariants.{Off, On}
+use Rattle.dcr_tape.specs.declared.tape.Tape.{Tape}
+use Rattle.dcr_cell.specs.Stored.{StoreStands, TapeStands}
+use Rattle.dcr_cluster.specs.Opening.{Leaves, IsCause, IsFirstBad}
+use Rattle.dcr_cluster.specs.declared.refused.OpenCause.{OpenCause}
+use Rattle.dcr_cluster.specs.declared.refused.OpenCause.TheVariants as opening
+use Rattle.dcr_json.specs.Case.{case_in}
+use Rattle.dcr_json.specs.Judged.{Spelled}
+use Rattle.dcr_json.specs.Refusals.{CasesAreTheFormats}
+use Rattle.dcr_report.specs.Report.{report_text}
+use Rattle.dcr_app.specs.Answers.{AnswersCase, TellsNone, is_silent, has_failed, is_tape_refused}
+use Rattle.dcr_app.specs.Headline.{IsDueFor, all_done, cluster_in, digest_of}
+use Rattle.dcr_app.specs.Headline.{has_failed as some_failed}
+use Rattle.dcr_app.specs.Outside.{IsSilent, Wrote}
+use Rattle.dcr_app.specs.Stored.{EndsFor, EndsOver, HasKept, RanOver, StandsStill, by_bytes, by_execution, disk_in, tape_cause, tape_line}
+use Rattle.dcr_app.proofs.OutsideLemmas.{wrote_at}
+use Rattle.dcr_app.proofs.RunLemmas.{tells_run}
+use Rattle.dcr_app.proofs.TapeLemmas.{either_way, has_kept, none_made, still_opened, still_refused, still_then, stood, stood_for}
+
+-- ---- statuses
+
+-- nothing was written and the status is another one
+pub not_silent : (status named : Status) (had took : Option (List ℕ)) → status ≡ named → (named ≡ ReadFault → ⊥) → (named ≡ NoMemory → ⊥) → IsSilent status had took → ⊥
+not_silent status named had took is read memory silent = elim silent.0 [
+  | inl e ↦ read (sym is ∙ e)
+  | inr e ↦ memory (sym is ∙ e)
+]
+
+-- a report that ended with the status of a fault tells one
+pub fault_told : (J : List Entry) (due : Status) (text : List ℕ) (status : Status) (had took : Option (List ℕ)) → IsDueFor J due → Wrote due text status had took
+    → status ≡ DiskFault → ¬ HasNoFault J
+fault_told J due text status had took (all_done none is) wrote fault =
+    let same : DiskFault ≡ due = (wrote_at due text status DiskFault had took fault tt wrote).0 in absurd (let wrong = same ∙ is in cc)
+fault_told J due text status had took (some_failed some is) wrote fault = some
+
+-- a report never ends with the status of a refused tape
+pub no_report_refused : (J : List Entry) (due : Status) (text : List ℕ) (status : Status) (had took : Option (List ℕ)) → IsDueFor J due → Wrote due text status had took
+    → status ≡ TapeRefused → ⊥
+no_report_refused J due text status had took (all_done none is) wrote refused =
+    let same : TapeRefused ≡ due = (wrote_at due text status TapeRefused had took refused tt wrote).0 in let wrong = same ∙ is in cc
+no_report_refused J due text status had took (some_failed some is) wrote refused =
+    let same : TapeRefused ≡ due = (wrote_at due text status TapeRefused had took refused tt wrote).0 in let wrong = same ∙ is in cc
+
+-- a line of a refused tape is never told as a failed disk
+never_failed : (why : TapeCause) (status : Status) (had took : Option (List ℕ)) → status ≡ DiskFault
+    → IsSilent status had took ⊎ Wrote TapeRefused (tape_line why) status had took → ⊥
+never_failed why status had took is (inl silent) = not_silent status DiskFault had took is (λ e. cc) (λ e. cc) silent
+never_failed why status had took is (inr wrote) =
+    let same : DiskFault ≡ TapeRefused = (wrote_at TapeRefused (tape_line why) status DiskFault had took is tt wrote).0 in cc
+
+-- a disk is told as failed exactly for that cause, and as refused for one that is shown
+pub failed_for : (why : TapeCause) (status : Status) (had took : Option (List ℕ)) → EndsFor why status had took → status ≡ DiskFault → why ≡ cause.DiskFault
+failed_for cause.DiskFault status had took ends is = refl
+failed_for cause.NoMemory status had took ends is = absurd (not_silent status DiskFault had took is (λ e. cc) (λ e. cc) ends)
+failed_for cause.NotTape status had took ends is = absurd (never_failed cause.NotTape status had took is ends)
+failed_for (cause.OtherGraph found) status had took ends is = absurd (never_failed (cause.OtherGraph found) status had took is ends)
+failed_for (cause.BadTape at) status had took ends is = absurd (never_failed (cause.BadTape at) status had took is ends)
+failed_for cause.Long status had took ends is = absurd (never_failed cause.Long status had took is ends)
+
+-- ---- without a tape
+
+off_stands : {D : Type 0} (view : D → DiskView) (faults : D → ℕ) (before : D) (J : List Entry) (last : Store D)
+    → StoreStands view faults (Some (Off before)) [] J last → (disk_in last ≡ before) × HasNoFault J
+off_stands view faults before J (Off disk) stands = stands
+off_stands view faults before J (On tape) stands = elim stands [ ]
+
+module _ {D : Type 0} (view : D → DiskView) (faults : D → ℕ) (workers : ℕ) (case : Spelled) (before end : D) (had took : Option (List ℕ)) (status : Status) where
+  off_left : (why : OpenCause) (last : Store D) → Leaves view faults [] why (Off before) last → disk_in last ≡ before
+  off_left opening.NoMemory last leaves = ap disk_in leaves
+  off_left (opening.BadTape at) last leaves = ap disk_in leaves
+  off_left opening.DiskFault last leaves = elim leaves [ ]
+
+  -- the disk is as it was
+  pub off_same : (told_run : Option Closed) → EndsOver view faults workers case [] (Off before) end had took status told_run → end ≡ before
+  off_same (Some closed) it = it.same ∙ (off_stands view faults before closed.history.entries it.last it.ran.stored).0
+  off_same None it = it.same ∙ off_left it.cause it.last it.refused.leaves
+
+  off_refused : (why : OpenCause) (last : Store D) → IsCause (cluster_in case []) why → Leaves view faults [] why (Off before) last → EndsFor (tape_cause why) status had took
+      → IsSilent status had took
+  off_refused opening.NoMemory last stands leaves ends = ends
+  off_refused (opening.BadTape at) last stands leaves ends = absurd (let there = stands.there in cc)
+  off_refused opening.DiskFault last stands leaves ends = elim leaves [ ]
+
+  pub off_answers : CasesAreTheFormats → (bytes : List ℕ) → case_in bytes ≡ Ok case → (told_run : Option Closed)
+      → EndsOver view faults workers case [] (Off before) end had took status told_run
+      → AnswersCase view faults workers false before end (Some bytes) ⊤ had took status told_run
+  off_answers law bytes spelled (Some closed) it =
+      tells_run view faults law workers false before end bytes case [] (Off before) had took status closed spelled (omega arith) refl it (off_same (Some closed) it)
+      (λ off. (off_stands view faults before closed.history.entries it.last it.ran.stored).1)
+  off_answers law bytes spelled None it = is_silent (off_refused it.cause it.last it.refused.stands it.refused.leaves it.ends)
+
+  -- it is never told as failed
+  pub off_unfailed : (told_run : Option Closed) → EndsOver view faults workers case [] (Off before) end had took status told_run → status ≡ DiskFault → ⊥
+  off_unfailed (Some closed) it is =
+      fault_told closed.history.entries it.report.0 (report_text case.nested case.cover closed.opening closed.history.entries) status had took it.report.1 it.report.2 is
+      (off_stands view faults before closed.history.entries it.last it.ran.stored).1
+  off_unfailed None it is =
+      not_silent status DiskFault had took is (λ e. cc) (λ e. cc) (off_refused it.cause it.last it.refused.stands it.refused.leaves it.ends)
+
+-- ---- over a tape
+
+on_stands : {D : Type 0} (view : D → DiskView) (faults : D → ℕ) (tape : Tape D) (old : List TapeEntry) (J : List Entry) (last : Store D)
+    → StoreStands view faults (Some (On tape)) old J last → (now : Tape D) × (disk_in last ≡ now.disk) × TapeStands view faults tape old J now
+on_stands view faults tape old J (Off disk) stands = elim stands [ ]
+on_stands view faults tape old J (On now) stands = (now, refl, stands)
+
+module _ {D : Type 0} (view : D → DiskView) (faults : D → ℕ) (workers : ℕ) (case : Spelled) (one : OneList) (before : D) (tape : Tape D) (old : List TapeEntry)
+    (long : length (digest_of case) ≡ 32) (opened : Opened (view before) (view tape.disk) (digest_of case) (part_of tape) old) (same_faults : faults tape.disk ≡ faults before)
+    (end : D) (had took : Option (List ℕ)) (status : Status) where
+  abbrev digest : List ℕ
+  digest = digest_of case
+
+  -- what is left after a run
+  kept_by : (closed : Closed) → (it : RanOver view faults workers case old (On tape) end had took status closed) → HasKept view faults digest old closed.history.entries before end
+  kept_by closed it =
+      let J = closed.history.entries in
+      let stands = on_stands view faults tape old J it.last it.ran.stored in
+      subst (λ d. HasKept view faults digest old J before d) (sym (it.same ∙ stands.1))
+      (has_kept view faults one before tape digest old long opened J stands.0 stands.2 same_faults (either_way J it.report.0 it.report.1))
+
+  some_there : (at : ℕ) → IsFirstBad (cluster_in case old) at → opened.before ≢ []
+  some_there at bad empty =
+      let none : old ≡ [] = none_made view faults one before tape digest old long opened empty in
+      let there : slice_get [] at ≡ Some bad.execution = subst (λ (l : List TapeEntry). slice_get l at ≡ Some bad.execution) none bad.there in cc
+
+  -- no call was made
+  on_refused : (bytes : List ℕ) → case_in bytes ≡ Ok case → (why : OpenCause) → IsCause (cluster_in case old) why → EndsFor (tape_cause why) status had took
+      → TellsNone true (view before) (Some bytes) had took status
+  on_refused bytes spelled opening.NoMemory stands ends = is_silent ends
+  on_refused bytes spelled opening.DiskFault stands ends = has_failed refl ends.0 ends.1
+  on_refused bytes spelled (opening.BadTape at) stands (inl silent) = is_silent silent
+  on_refused bytes spelled (opening.BadTape at) stands (inr wrote) =
+      let some = some_there at stands in
+      is_tape_refused refl (record {
+        bytes = bytes;
+        read = refl;
+        case = case;
+        spelled = spelled;
+        content = opened.before;
+        was = opened.was;
+        some = some;
+        cause = cause.BadTape at;
+        stands = by_execution at refl old (stood view faults one before tape digest old long opened some) opened.few stands;
+        line = wrote;
+      })
+
+  pub on_answers : CasesAreTheFormats → (bytes : List ℕ) → case_in bytes ≡ Ok case → (told_run : Option Closed)
+      → EndsOver view faults workers case old (On tape) end had took status told_run
+      → AnswersCase view faults workers true before end (Some bytes) ⊤ had took status told_run
+  on_answers law bytes spelled (Some closed) it =
+      tells_run view faults law workers true before end bytes case old (On tape) had took status closed spelled opened.few
+      (stood_for view faults one before tape digest old long opened) it (kept_by closed it) (λ e. absurd cc)
+  on_answers law bytes spelled None it = on_refused bytes spelled it.cause it.refused.stands it.ends
+
+  still_for : (why : OpenCause) (last : Store D) → Leaves view faults old why (On tape) last → StandsStill view before (disk_in last)
+  still_for opening.NoMemory (On now) leaves = still_then view faults one before tape digest old long opened now.disk leaves.0
+  still_for opening.NoMemory (Off disk) leaves = absurd cc
+  still_for opening.DiskFault (On now) leaves = still_then view faults one before tape digest old long opened now.disk leaves.0
+  still_for opening.DiskFault (Off disk) leaves = elim leaves [ ]
+  still_for (opening.BadTape at) last leaves = subst (λ s. StandsStill view before (disk_in s)) (sym leaves) (still_opened view faults one before tape digest old long opened)
+
+  pub on_still : (told_run : Option Closed) → EndsOver view faults workers case old (On tape) end had took status told_run → told_run ≡ None → StandsStill view before end
+  on_still (Some closed) it none = absurd cc
+  on_still None it none = subst (λ d. StandsStill view before d) (sym it.same) (still_for it.cause it.last it.refused.leaves)
+
+  -- the count of faults
+  failed_open : (why : OpenCause) (last : Store D) → Leaves view faults old why (On tape) last → tape_cause why ≡ cause.DiskFault → Rose (faults before) (faults (disk_in last))
+  failed_open opening.DiskFault (On now) leaves is = subst (λ n. Rose n (faults now.disk)) same_faults leaves.2
+  failed_open opening.DiskFault (Off disk) leaves is = elim leaves [ ]
+  failed_open opening.NoMemory last leaves is = absurd cc
+  failed_open (opening.BadTape at) last leaves is = absurd cc
+
+  pub on_counted : (told_run : Option Closed) → EndsOver view faults workers case old (On tape) end had took status told_run → status ≡ DiskFault → Rose (faults before) (faults end)
+  on_counted (Some closed) it is =
+      ((kept_by closed it).failed
+      (fault_told closed.history.entries it.report.0 (report_text case.nested case.cover closed.opening closed.history.entries) status had took it.report.1 it.report.2 is)).1
+  on_counted None it is =
+      subst (λ d. Rose (faults before) (faults d)) (sym it.same) (failed_open it.cause it.last it.refused.leaves (failed_for (tape_cause it.cause) status had took it.ends is))
+
+  no_fewer_open : (why : OpenCause) (last : Store D) → Leaves view faults old why (On tape) last → faults before ≤ faults (disk_in last)
+  no_fewer_open opening.DiskFault (On now) leaves = subst (λ n. n ≤ faults now.disk) same_faults leaves.1
+  no_fewer_open opening.DiskFault (Off disk) leaves = elim leaves [ ]
+  no_fewer_open opening.NoMemory (On now) leaves = omega (arith, leaves.1, same_faults)
+  no_fewer_open opening.NoMemory (Off disk) leaves = absurd cc
+  no_fewer_open (opening.BadTape at) last leaves = let same : faults (disk_in last) ≡ faults tape.disk = ap (λ s. faults (disk_in s)) leaves in omega (arith, same, same_faults)
+
+  no_fewer_ran : (J : List Entry) → HasNoFault J ⊎ (¬ HasNoFault J) → HasKept view faults digest old J before end → faults before ≤ faults end
+  no_fewer_ran J (inl none) kept = let same = kept.no_fault none in omega (arith, same)
+  no_fewer_ran J (inr some) kept = (kept.failed some).0
+
+  pub on_no_fewer : (told_run : Option Closed) → EndsOver view faults workers case old (On tape) end had took status told_run → faults before ≤ faults end
+  on_no_fewer (Some closed) it = no_fewer_ran closed.history.entries (either_way closed.history.entries it.report.0 it.report.1) (kept_by closed it)
+  on_no_fewer None it = subst (λ d. faults before ≤ faults d) (sym it.same) (no_fewer_open it.cause it.last it.refused.leaves)
+
+  -- a tape that is refused has the content that it had
+  same_tape : (why : OpenCause) (last : Store D) → IsCause (cluster_in case old) why → Leaves view faults old why (On tape) last → EndsFor (tape_cause why) status had took
+      → status ≡ TapeRefused → IsTrue (view before).told → (view (disk_in last)).content ≡ (view before).content
+  same_tape opening.NoMemory last stands leaves ends is told = absurd (not_silent status TapeRefused had took is (λ e. cc) (λ e. cc) ends)
+  same_tape opening.DiskFault last stands leaves ends is told = absurd (let wrong = sym is ∙ ends.0 in cc)
+  same_tape (opening.BadTape at) last stands leaves ends is told =
+      ap (λ s. (view (disk_in s)).content) leaves ∙ opened.kept (some_there at stands) ∙ sym (opened.was told)
+
+  pub on_kept : (told_run : Option Closed) → EndsOver view faults workers case old (On tape) end had took status told_run → status ≡ TapeRefused → IsTrue (view before).told
+      → (view end).content ≡ (view before).content
+  on_kept (Some closed) it is told =
+      absurd (no_report_refused closed.history.entries it.report.0 (report_text case.nested case.cover closed.opening closed.history.entries) status had took it.report.1 it.report.2 is)
+  on_kept None it is told = ap (λ d. (view d).content) it.same ∙ same_tape it.cause it.last it.refused.stands it.refused.leaves it.ends is told
+
+-- ---- a disk that was not opened as a tape
+
+module _ {D : Type 0} (view : D → DiskView) (faults : D → ℕ) (workers : ℕ) (case : Spelled) (before end : D) (why : TapeCause)
+    (refused : NotOpened (view before) (view end) (digest_of case) why) (counts : CountsFaultOf why (faults before) (faults end)) (had took : Option (List ℕ)) (status : Status)
+    (ends : EndsFor why status had took) where
+  shown_line : (bytes : List ℕ) → case_in bytes ≡ Ok case → (cause : TapeCause) → cause ≡ why → IsShown cause
+      → IsSilent status had took ⊎ Wrote TapeRefused (tape_line cause) status had took → TellsNone true (view before) (Some bytes) had took status
+  shown_line bytes spelled cause same shown (inl silent) = is_silent silent
+  shown_line bytes spelled cause same shown (inr wrote) =
+      let shown_why = subst IsShown same shown in
+      is_tape_refused refl (record {
+        bytes = bytes;
+        read = refl;
+        case = case;
+        spelled = spelled;
+        content = refused.before;
+        was = refused.was;
+        some = (refused.shown shown_why).1;
+        cause = why;
+        stands = by_bytes shown_why refused.stands;
+        line = subst (λ c. Wrote TapeRefused (tape_line c) status had took) same wrote;
+      })
+
+  tells_none : (bytes : List ℕ) → case_in bytes ≡ Ok case → (cause : TapeCause) → cause ≡ why → EndsFor cause status had took
+      → TellsNone true (view before) (Some bytes) had took status
+  tells_none bytes spelled cause.DiskFault same ends' = has_failed refl ends'.0 ends'.1
+  tells_none bytes spelled cause.NoMemory same ends' = is_silent ends'
+  tells_none bytes spelled cause.NotTape same ends' = shown_line bytes spelled cause.NotTape same tt ends'
+  tells_none bytes spelled (cause.OtherGraph found) same ends' = shown_line bytes spelled (cause.OtherGraph found) same tt ends'
+  tells_none bytes spelled (cause.BadTape at) same ends' = shown_line bytes spelled (cause.BadTape at) same tt ends'
+  tells_none bytes spelled cause.Long same ends' = shown_line bytes spelled cause.Long same tt ends'
+
+  pub unopened_answers : (bytes : List ℕ) → case_in bytes ≡ Ok case → (told_run : Option Closed) → told_run ≡ None
+      → AnswersCase view faults workers true before end (Some bytes) ⊤ had took status told_run
+  unopened_answers bytes spelled told_run none =
+      subst (λ t. AnswersCase view faults workers true before end (Some bytes) ⊤ had took status t) (sym none) (tells_none bytes spelled why refl ends)
+
+  pub unopened_still : StandsStill view before end
+  unopened_still = still_refused view before end (digest_of case) why refused
+
+  pub unopened_counted : status ≡ DiskFault → Rose (faults before) (faults end)
+  unopened_counted is = (subst (λ c. CountsFaultOf c (faults before) (faults end)) (failed_for why status had took ends is) counts).1
+
+  no_fewer_for : (cause : TapeCause) → CountsFaultOf cause (faults before) (faults end) → faults before ≤ faults end
+  no_fewer_for cause.NotTape same = omega (arith, same)
+  no_fewer_for (cause.OtherGraph found) same = omega (arith, same)
+  no_fewer_for (cause.BadTape at) same = omega (arith, same)
+  no_fewer_for cause.Long same = omega (arith, same)
+  no_fewer_for cause.DiskFault rose = rose.0
+  no_fewer_for cause.NoMemory same = omega (arith, same)
+
+  pub unopened_no_fewer : faults before ≤ faults end
+  unopened_no_fewer = no_fewer_for why counts
+
+  pub unopened_kept : (status ≡ TapeRefused → IsShown why) → status ≡ TapeRefused → IsTrue (view before).told → (view end).content ≡ (view before).content
+  unopened_kept shown is told = (refused.shown (shown is)).2 ∙ sym (refused.was told)

@@ -1,0 +1,161 @@
+-- What a run over a tape, or a refusal of one, leaves on the disk.
+use Rattle.std.proofs.Common.{◌≡◌, ◌≢◌, ◌⊎◌, inl, inr, ℕ, ◌≤◌, ◌+◌, IsTrue, List, [], ◌∷◌, ◌++◌, length, take, refl, sym, ap, subst, ◌∙◌, arith}
+use Rattle.std.proofs.lemmas.List.{append_assoc, take-append-le, take_all}
+use Rattle.dcr_base.specs.Count.{Rose}
+use Rattle.dcr_base.specs.Disk.{DiskView, IsSteady, LeavesOnly}
+use Rattle.dcr_base.proofs.DiskLemmas.{joined, started, weaker}
+use Rattle.dcr_journal.specs.Run.{HasNoFault}
+use Rattle.dcr_journal.specs.declared.call.Entry.{Entry}
+use Rattle.dcr_tape.specs.Kept.{part_of}
+use Rattle.dcr_tape.specs.Laws.{OneList}
+use Rattle.dcr_tape.specs.Opening.{Opened, Refused as NotOpened}
+use Rattle.dcr_tape.specs.Tape.{Holds, Part, StandsFor, part_bytes}
+use Rattle.dcr_base.specs.declared.status.Status.{Status}
+use Rattle.dcr_tape.specs.declared.cause.TapeCause.{TapeCause}
+use Rattle.dcr_tape.specs.declared.entry.TapeEntry.{TapeEntry}
+use Rattle.dcr_tape.specs.declared.tape.Tape.{Tape}
+use Rattle.dcr_tape.proofs.OpenLemmas.{made_holds}
+use Rattle.dcr_cell.specs.Stored.{StandsForSome, TapeStands, executions, failed_executions, kept_for, tried_for}
+use Rattle.dcr_app.specs.Headline.{IsDueFor, StoodFor, all_done, has_failed}
+use Rattle.dcr_app.specs.Stored.{HasKept, StandsStill}
+
+-- ---- contents
+
+-- no tape is empty
+pub none_stands : (digest : List ℕ) (old : List TapeEntry) (content : List ℕ) → content ≡ [] → StandsFor digest old content → ⊥
+none_stands digest old content empty stands =
+    let long : stands.part.start + 65 ≤ length content = stands.holds.in_force.long in
+    let none : length content ≡ 0 = ap (λ (l : List ℕ). length l) empty in absurd (omega arith)
+
+-- a content stands for one list of one case
+pub one_stands : OneList → (content digest other : List ℕ) (old others : List TapeEntry) → StandsFor digest old content → StandsFor other others content
+    → (digest ≡ other) × (old ≡ others)
+one_stands one content digest other old others stands also =
+    let same = one content stands.part also.part old others stands.holds also.holds in
+    (sym stands.same_case ∙ ap (λ (p : Part). p.digest) same.0 ∙ also.same_case, same.1)
+
+-- ---- a disk that is not called
+
+pub still_same : {D : Type 0} (view : D → DiskView) (before after : D) → after ≡ before → StandsStill view before after
+still_same view before after same =
+    subst (λ d. StandsStill view before d) (sym same)
+    (λ digest old steady stands. started (view before) (StandsFor digest old) (λ c left. subst (StandsFor digest old) (sym (steady.only c left)) stands))
+
+-- ---- a tape that was opened
+
+module _ {D : Type 0} (view : D → DiskView) (faults : D → ℕ) (one : OneList) (before : D) (tape : Tape D) (digest : List ℕ) (old : List TapeEntry) (long : length digest ≡ 32)
+    (opened : Opened (view before) (view tape.disk) digest (part_of tape) old) where
+  same_case : tape.digest ≡ digest
+  same_case = opened.same_case
+
+  honest_now : IsTrue (view before).honest → IsTrue (view tape.disk).honest
+  honest_now honest = (opened.steady honest).honest
+
+  none_by : (part : Part) → Holds (part_bytes digest []) part [] → opened.before ≡ [] → old ≡ []
+  none_by part made empty =
+      (one (view tape.disk).content (part_of tape) part old [] opened.holds (subst (λ c. Holds c part []) (sym (opened.made empty)) made)).1
+
+  -- an empty disk stands for no execution
+  pub none_made : opened.before ≡ [] → old ≡ []
+  none_made empty = none_by _ (made_holds digest long) empty
+
+  -- one that is not empty stood for them at entry
+  pub stood : opened.before ≢ [] → StandsFor digest old opened.before
+  stood some = record { part = part_of tape; same_case = same_case; holds = subst (λ c. Holds c (part_of tape) old) (opened.kept some) opened.holds }
+
+  pub stood_for : StoodFor digest (view before) old
+  stood_for told = by_before opened.before refl (opened.was told)
+    where
+      by_before : (content : List ℕ) → opened.before ≡ content → (view before).content ≡ opened.before
+          → (((view before).content ≡ []) × (old ≡ [])) ⊎ StandsFor digest old (view before).content
+      by_before [] is was = inl (was ∙ is, none_made is)
+      by_before (b ∷ bs) is was = inr (subst (StandsFor digest old) (sym was) (stood (λ empty. let wrong = sym is ∙ empty in cc)))
+
+  -- the disk was not empty where it stood for a list
+  some_before : (digest' : List ℕ) (old' : List TapeEntry) → IsTrue (view before).told → StandsFor digest' old' (view before).content → opened.before ≢ []
+  some_before digest' old' told stands empty = none_stands digest' old' (view before).content (opened.was told ∙ empty) stands
+
+  -- opening it left what it stood for
+  pub left_opening : (digest' : List ℕ) (old' : List TapeEntry) → IsSteady (view before) → StandsFor digest' old' (view before).content
+      → LeavesOnly (view before) (view tape.disk) (StandsFor digest' old')
+  left_opening digest' old' steady stands =
+      weaker (view before) (view tape.disk) (view before).may_leave (StandsFor digest' old')
+      (λ c left. subst (StandsFor digest' old') (sym (steady.only c left)) stands)
+      (opened.any_moment steady.honest (some_before digest' old' ((view before).honest_tells steady.honest) stands))
+
+  -- the same list, of the same case
+  same_list : (digest' : List ℕ) (old' : List TapeEntry) → IsSteady (view before) → StandsFor digest' old' (view before).content → (digest ≡ digest') × (old ≡ old')
+  same_list digest' old' steady stands =
+      let told = (view before).honest_tells steady.honest in
+      one_stands one (view before).content digest digest' old old'
+      (subst (StandsFor digest old) (sym (opened.was told)) (stood (some_before digest' old' told stands))) stands
+
+  pub still_opened : StandsStill view before tape.disk
+  still_opened digest' old' steady stands = left_opening digest' old' steady stands
+
+  -- and what came then left the executions of the tape
+  pub still_then : (after : D) → (IsTrue (view tape.disk).honest → LeavesOnly (view tape.disk) (view after) (StandsFor tape.digest old)) → StandsStill view before after
+  still_then after then digest' old' steady stands =
+      let same = same_list digest' old' steady stands in
+      joined (view before) (view tape.disk) (view after) (StandsFor digest' old') (left_opening digest' old' steady stands)
+      (weaker (view tape.disk) (view after) (StandsFor tape.digest old) (StandsFor digest' old')
+      (λ c here. subst (λ d. StandsFor d old' c) (same_case ∙ same.0) (subst (λ l. StandsFor tape.digest l c) same.1 here)) (then (honest_now steady.honest)))
+
+  -- a run over it
+  module _ (J : List Entry) (last : Tape D) (stands : TapeStands view faults tape old J last) (same_faults : faults tape.disk ≡ faults before) where
+    of_case : last.digest ≡ digest
+    of_case = stands.same_case ∙ same_case
+
+    pub stands_after : HasNoFault J → IsTrue (view last.disk).told × StandsFor digest (kept_for old J) (view last.disk).content
+    stands_after none =
+        let going = stands.goes_on none in
+        (going.keeps.told, record { part = part_of last; same_case = of_case; holds = going.keeps.holds })
+
+    leaves_after : HasNoFault J ⊎ (¬ HasNoFault J) → IsTrue (view before).honest → (content : List ℕ) → (view last.disk).may_leave content
+        → StandsFor digest (kept_for old J) content ⊎ StandsFor digest (tried_for old J) content
+    leaves_after (inl none) honest content left =
+        let steady = (stands.goes_on none).steady (honest_now honest) in
+        inl (subst (StandsFor digest (kept_for old J)) (sym (steady.only content left)) (stands_after none).1)
+    leaves_after (inr some) honest content left =
+        subst (λ d. StandsFor d (kept_for old J) content ⊎ StandsFor d (tried_for old J) content) same_case ((stands.has_stopped some).leaves (honest_now honest) content left)
+
+    -- what it stood for begins what was tried
+    old_first : take (length old) (tried_for old J) ≡ old
+    old_first =
+        ap (take (length old)) (append_assoc old (executions J) (failed_executions J))
+        ∙ take-append-le (length old) old (executions J ++ failed_executions J) (omega arith)
+        ∙ take_all (length old) old (omega arith)
+
+    moment_after : IsSteady (view before) → StandsFor digest old (view before).content
+        → LeavesOnly (view before) (view last.disk) (StandsForSome digest old (tried_for old J))
+    moment_after steady here =
+        joined (view before) (view tape.disk) (view last.disk) (StandsForSome digest old (tried_for old J))
+        (weaker (view before) (view tape.disk) (StandsFor digest old) (StandsForSome digest old (tried_for old J))
+        (λ c is. record { count = length old; has_old = omega arith; stands = subst (λ l. StandsFor digest l c) (sym old_first) is })
+        (left_opening digest old steady here))
+        (subst (λ d. LeavesOnly (view tape.disk) (view last.disk) (StandsForSome d old (tried_for old J))) same_case (stands.any_moment (honest_now steady.honest)))
+
+    pub has_kept : HasNoFault J ⊎ (¬ HasNoFault J) → HasKept view faults digest old J before last.disk
+    has_kept either = record {
+      stands = stands_after;
+      leaves = leaves_after either;
+      any_moment = moment_after;
+      no_fault = λ none. (stands.goes_on none).no_fault ∙ same_faults;
+      failed = λ some. let stopped = stands.has_stopped some in
+          (subst (λ n. n ≤ faults last.disk) same_faults stopped.no_fewer, subst (λ n. Rose n (faults last.disk)) same_faults stopped.rose);
+    }
+
+-- whether an execution failed, by the status that is due
+pub either_way : (J : List Entry) (due : Status) → IsDueFor J due → HasNoFault J ⊎ (¬ HasNoFault J)
+either_way J due (all_done none is) = inl none
+either_way J due (has_failed some is) = inr some
+
+-- ---- a disk that was not opened as a tape
+
+module _ {D : Type 0} (view : D → DiskView) (before after : D) (digest : List ℕ) (cause : TapeCause) (refused : NotOpened (view before) (view after) digest cause) where
+  pub still_refused : StandsStill view before after
+  still_refused digest' old' steady stands =
+      let told = (view before).honest_tells steady.honest in
+      weaker (view before) (view after) (view before).may_leave (StandsFor digest' old')
+      (λ c left. subst (StandsFor digest' old') (sym (steady.only c left)) stands)
+      (refused.any_moment steady.honest (λ empty. none_stands digest' old' (view before).content (refused.was told ∙ empty) stands))

@@ -1,0 +1,111 @@
+-- What is left on the disk, and why one is refused as the tape of a case.
+use Rattle.std.specs.Prelude.{◌≡◌, ◌⊎◌, ℕ, ◌≤◌, Bool, true, false, IsTrue, List, [], ◌++◌, length, codes, decimal, Option, Some, None}
+use Rattle.std.specs.Io.KnownBytes.{Appends}
+use Rattle.dcr_base.specs.Count.{Rose}
+use Rattle.dcr_base.specs.Disk.{DiskView, IsSteady, LeavesOnly}
+use Rattle.dcr_base.specs.declared.status.Status.{Status}
+use Rattle.dcr_base.specs.declared.status.Status.TheVariants as named
+use Rattle.dcr_journal.specs.Run.{HasNoFault}
+use Rattle.dcr_journal.specs.declared.call.Entry.{Entry}
+use Rattle.dcr_journal.specs.declared.closed.Closed.{Closed}
+use Rattle.dcr_tape.specs.Opening.{IsCause, IsShown, most_records}
+use Rattle.dcr_tape.specs.Tape.{StandsFor}
+use Rattle.dcr_tape.specs.declared.cause.TapeCause.{TapeCause}
+use Rattle.dcr_tape.specs.declared.cause.TapeCause.TheVariants.{NotTape, OtherGraph, BadTape, Long, DiskFault, NoMemory}
+use Rattle.dcr_tape.specs.declared.entry.TapeEntry.{TapeEntry}
+use Rattle.dcr_cell.specs.Stored.{StandsForSome, kept_for, tried_for}
+use Rattle.dcr_tape.specs.declared.tape.Store.{Store}
+use Rattle.dcr_tape.specs.declared.tape.Store.TheVariants.{Off, On}
+use Rattle.dcr_cluster.specs.Opening.{ArePossible, IsFirstBad, Refused}
+use Rattle.dcr_cluster.specs.declared.refused.OpenCause.{OpenCause}
+use Rattle.dcr_cluster.specs.declared.refused.OpenCause.TheVariants as opening
+use Rattle.dcr_engine.specs.Ran.{HasRun}
+use Rattle.dcr_json.specs.Judged.{Spelled}
+use Rattle.dcr_report.specs.Report.{report_text}
+use Rattle.dcr_app.specs.Headline.{IsDueFor, cluster_in, digest_of}
+use Rattle.dcr_app.specs.Outside.{IsSilent, Wrote}
+
+-- ---- after a run
+
+-- What a run with the history J has left on the disk, where it went on from the executions `old` of the case with this
+-- digest: these and then those of the run that were done. Where one failed, a crash leaves them with that one or without it.
+pub record HasKept {D : Type 0} (view : D → DiskView) (faults : D → ℕ) (digest : List ℕ) (old : List TapeEntry) (J : List Entry) (before after : D) : Type 0 where
+  pub stands : HasNoFault J → IsTrue (view after).told × StandsFor digest (kept_for old J) (view after).content
+  pub leaves : IsTrue (view before).honest → (content : List ℕ) → (view after).may_leave content
+      → StandsFor digest (kept_for old J) content ⊎ StandsFor digest (tried_for old J) content
+  -- a crash at any moment since the call began left all executions from before, and of the others a beginning
+  pub any_moment : IsSteady (view before) → StandsFor digest old (view before).content
+      → LeavesOnly (view before) (view after) (StandsForSome digest old (tried_for old J))
+  pub no_fault : HasNoFault J → faults after ≡ faults before
+  pub failed : ¬ HasNoFault J → (faults before ≤ faults after) × Rose (faults before) (faults after)
+
+-- the disk after a run: without a store it is not called
+abbrev pub Keeps : Bool → {D : Type 0} → (D → DiskView) → (D → ℕ) → List ℕ → List TapeEntry → List Entry → D → D → Type 0
+Keeps true view faults digest old J before after = HasKept view faults digest old J before after
+Keeps false view faults digest old J before after = after ≡ before
+
+-- ---- without a run
+
+-- the disk stands for what it stood for: over a disk that had nothing pending a crash at any moment since the call began
+-- left the same executions
+abbrev pub StandsStill : {D : Type 0} → (D → DiskView) → D → D → Type 0
+StandsStill view before after = (digest : List ℕ) (old : List TapeEntry) → IsSteady (view before) → StandsFor digest old (view before).content
+    → LeavesOnly (view before) (view after) (StandsFor digest old)
+
+-- The cause stands in this content, for the case: it is no tape of the case that has sound records, or its first execution
+-- that can't be done, each after those before it, is this one.
+pub data RefusesTape (case : Spelled) (content : List ℕ) (cause : TapeCause) : Type 0 where
+  by_bytes : IsShown cause → IsCause (digest_of case) content cause → RefusesTape case content cause
+  by_execution : (at : ℕ) → cause ≡ BadTape at → (old : List TapeEntry) → StandsFor (digest_of case) old content → length old ≤ most_records
+      → IsFirstBad (cluster_in case old) at → RefusesTape case content cause
+
+-- the line that tells it; a fault and want of memory have none
+abbrev pub tape_line : TapeCause → List ℕ
+tape_line NotTape = codes "tape not-tape\n"
+tape_line (OtherGraph found) = codes "tape other-case\n"
+tape_line (BadTape at) = codes "tape bad " ++ decimal at ++ codes "\n"
+tape_line Long = codes "tape long\n"
+tape_line DiskFault = []
+tape_line NoMemory = []
+
+-- What comes of a disk that is refused for this cause: nothing is written where it failed or memory ran out; else the line of
+-- the cause was due, or memory ran out before it.
+abbrev pub EndsFor : TapeCause → Status → Option (List ℕ) → Option (List ℕ) → Type 0
+EndsFor DiskFault status had took = (status ≡ named.DiskFault) × Appends had took []
+EndsFor NoMemory status had took = IsSilent status had took
+EndsFor cause status had took = IsSilent status had took ⊎ Wrote named.TapeRefused (tape_line cause) status had took
+
+-- ---- over a store
+
+abbrev pub disk_in : {D : Type 0} → Store D → D
+disk_in (Off disk) = disk
+disk_in (On tape) = tape.disk
+
+-- why a disk is refused whose cluster isn't opened
+abbrev pub tape_cause : OpenCause → TapeCause
+tape_cause opening.NoMemory = NoMemory
+tape_cause (opening.BadTape at) = BadTape at
+tape_cause opening.DiskFault = DiskFault
+
+-- the case was run over this store, and the report of the run was due
+pub record RanOver {D : Type 0} (view : D → DiskView) (faults : D → ℕ) (workers : ℕ) (case : Spelled) (old : List TapeEntry) (first : Store D) (disk : D)
+    (had took : Option (List ℕ)) (status : Status) (closed : Closed) : Type 0 where
+  pub last : Store D
+  pub same : disk ≡ disk_in last
+  pub possible : ArePossible (cluster_in case old) (length old)
+  pub ran : HasRun view faults (cluster_in case old) first workers case.sessions closed last
+  pub report : (due : Status) × IsDueFor closed.history.entries due
+      × Wrote due (report_text case.nested case.cover closed.opening closed.history.entries) status had took
+
+-- no call was made over this store, for this cause
+pub record RefusedOver {D : Type 0} (view : D → DiskView) (faults : D → ℕ) (case : Spelled) (old : List TapeEntry) (first : Store D) (disk : D)
+    (had took : Option (List ℕ)) (status : Status) : Type 0 where
+  pub cause : OpenCause
+  pub last : Store D
+  pub same : disk ≡ disk_in last
+  pub refused : Refused view faults (cluster_in case old) first cause last
+  pub ends : EndsFor (tape_cause cause) status had took
+
+abbrev pub EndsOver : {D : Type 0} → (D → DiskView) → (D → ℕ) → ℕ → Spelled → List TapeEntry → Store D → D → Option (List ℕ) → Option (List ℕ) → Status → Option Closed → Type 0
+EndsOver view faults workers case old first disk had took status (Some closed) = RanOver view faults workers case old first disk had took status closed
+EndsOver view faults workers case old first disk had took status None = RefusedOver view faults case old first disk had took status
