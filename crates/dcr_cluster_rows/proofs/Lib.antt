@@ -1,0 +1,2 @@
+pub mod MadeLemmas
+mod AnsweredLemmas
