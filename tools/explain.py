@@ -5,6 +5,7 @@
     tools/explain.py CASE refused 6 parent 0     the place that this line tells of
     ./dcr run < CASE | tools/explain.py CASE -   the same, the line read from standard input
     tools/explain.py REPORT invalid 6 outcome    the line of a report that `replay` tells of
+    tools/explain.py CASE tape other-case        why `dcr.tape` in the current folder is refused
 
 Each place is FILE:LINE:COLUMN, counted from 1, with the text that stands there. The status is 0 where nothing is wrong,
 and 1 where a place is told.
@@ -231,6 +232,12 @@ EXPECTED = {
     "end": ("`end` and the number of calls.", "a call that was left out, or a file that was cut"),
     "extra": ("Nothing more.", "something behind the last line"),
 }
+TAPES = {
+    "not-tape": ("A tape begins with DCRTAPE and a version that dcr reads.", "move the file away: it is something else, or the machine stopped while it was made, before any execution was answered"),
+    "other-case": ("A tape goes on with the case that it was begun with: the same events, labels, relations, sites and opening marks.", "run this case in a folder of its own, or take the case that the tape was begun with"),
+    "bad": ("Each execution of a tape is written whole, and can be done after those before it.", "the file was damaged or changed: keep a copy of it, and begin anew from the reports, or go back to a copy"),
+    "long": ("A tape is gone on from where it has at most 1000000 executions.", "keep it, and begin anew in another folder"),
+}
 
 
 def tell(path, text, told):
@@ -253,6 +260,12 @@ def tell_invalid(path, data, line, kind):
     print("  rule: %s\n  look for: %s" % (rule, look))
 
 
+def tell_tape(kind, number="0"):
+    rule, mend = TAPES[kind]
+    what = "execution %d, counted from 0, is bad" % int(number) if kind == "bad" else "it is refused as the tape of this case"
+    print("dcr.tape: %s\n  rule: %s\n  mend: %s" % (what, rule, mend))
+
+
 def tell_passed_over(path, text, file):
     found = sorted(file.passed_over(), key=lambda it: it[2])
     for kind, key, at, is_twice in found:
@@ -268,6 +281,9 @@ def explain(path, words):
         data = file.read()
     if words[:1] == ["invalid"]:
         tell_invalid(path, data, int(words[1]), words[2])
+        return 1
+    if words[:1] == ["tape"]:
+        tell_tape(*words[1:])
         return 1
     if words[:2] == ["refused", "1"]:
         print("%s: %d bytes; a case has at most 16777216, a report at most 268435456" % (path, len(data)))

@@ -155,6 +155,13 @@ def check_explain_shows_the_wrong_line_of_a_report():
     want(status == 1 and "medication.report:6:1" in wrote and "exec nurse gm condition s" in wrote, wrote)
 
 
+def check_explain_knows_the_lines_of_a_tape():
+    for line in ("tape not-tape", "tape other-case", "tape bad 7", "tape long"):
+        status, wrote, said = tool("explain.py", os.path.join(EXAMPLES, "medication.json"), *line.split())
+        want(status == 1 and wrote.startswith("dcr.tape: ") and "rule:" in wrote and "mend:" in wrote, line + wrote + said)
+    want("execution 7" in tool("explain.py", os.path.join(EXAMPLES, "medication.json"), "tape", "bad", "7")[1], "the number of the bad execution")
+
+
 # ---- draw
 
 
@@ -235,3 +242,13 @@ def check_the_examples_by_the_models():
         case, report = read("examples/%s.json" % name), read("examples/%s.report" % name)
         want(Case(case.decode()).report() == report.decode(), "bench/model.py makes another report of %s" % name)
         want(replayed(report) == "valid " + report.decode().rsplit("\nend ", 1)[1], "bench/replay.py finds %s wrong" % name)
+
+
+def check_the_case_over_two_days_by_the_models():
+    first, second = (Case(read("examples/stored/%s.json" % day).decode()) for day in ("monday", "tuesday"))
+    reports = [first.report()]
+    second.executed, second.pending, second.included = first.executed, first.pending, first.included
+    reports.append(second.report())
+    for day, report in zip(("monday", "tuesday"), reports):
+        want(report == read("examples/stored/%s.report" % day).decode(), "bench/model.py makes another report of %s" % day)
+        want(replayed(report.encode()).startswith("valid "), "bench/replay.py finds %s wrong" % day)

@@ -1,6 +1,7 @@
 """The program as a process: what it is asked, what it reads and writes, and the status that it ends with."""
 
 import functools
+import hashlib
 import json
 import os
 import pty
@@ -13,7 +14,7 @@ import time
 from checks import EXAMPLES, TOP, NotTried, examples, read, run, want
 
 PROGRAM = os.path.join(TOP, "crates/dcr/out/dcr")
-DONE, USAGE, REFUSED, READ_FAULT, WRITE_FAULT, NO_MEMORY, INVALID = 0, 2, 3, 4, 5, 6, 8
+DONE, USAGE, REFUSED, READ_FAULT, WRITE_FAULT, NO_MEMORY, DISK_FAULT, INVALID, TAPE_REFUSED = 0, 2, 3, 4, 5, 6, 7, 8, 10
 
 
 @functools.cache
@@ -62,6 +63,9 @@ def check_each_report_is_valid():
 def check_words_that_are_no_command_are_usage():
     lines = [[], ["RUN"], ["run "], [""], ["-h"], ["--help"], ["ru"], ["run", "run"], ["run", "replay"], ["replay", "run"], ["run", ""], ["x", "run"], ["run", "x", "y"]]
     lines += [["replay", "replay"], [b"\xff"], [b"run\xff"], [b"\xffrun"], ["run", b"\xff"], [b"\xff", "run"], ["replay", b"\xc3"]]
+    lines += [["run", "--workers", it] for it in ("0", "02", "65", "-1", "+2", "2 ", "", "4294967297", "two", "--store")]
+    lines += [["run", "--workers"], ["run", "--workers=2"], ["run", "--store", "--workers", "2"], ["run", "--store", "--store"], ["run", "--workers", "2", "--workers", "2"]]
+    lines += [["run", "--workers", "2", "store"], ["run", "--workers", "2", "--store", "x"], ["--store", "run"], ["replay", "--store"], ["load", "-1"], ["serve"]]
     for words in lines:
         told = dcr(*words, given=read("examples/first.json"))
         want(told == (USAGE, b"usage\n", b""), "%s gives %s" % (words, told))
@@ -99,6 +103,142 @@ def check_a_wrong_report_is_invalid():
     want(told == (INVALID, b"invalid 6 outcome\n", b""), str(told))
     told = dcr("replay", given=read("examples/first.json"))
     want(told == (INVALID, b"invalid 1 head\n", b""), str(told))
+
+
+# ---- workers and the tape
+
+
+def check_one_session_is_one_report_by_any_number_of_workers():
+    for workers in ("1", "2", "4", "63", "64"):
+        told = dcr("run", "--workers", workers, given=read("examples/medication.json"))
+        want(told == (DONE, read("examples/medication.report"), b""), "%s workers give %s" % (workers, told))
+
+
+def check_several_workers_make_valid_reports():
+    for name in examples():
+        for workers in ("2", "4"):
+            status, report, _ = dcr("run", "--workers", workers, given=read("examples/%s.json" % name))
+            count = report.rsplit(b"\nend ", 1)[1]
+            want(status == DONE, "%s by %s workers gives status %d" % (name, workers, status))
+            want(dcr("replay", given=report) == (DONE, b"valid " + count, b""), "%s by %s workers" % (name, workers))
+
+
+# The tape of examples/medication.json: pm, s and s at the doctor, dt and gm at the nurse.
+def medication_tape():
+    head = b"".join(read("examples/medication.report").splitlines(True)[1:4])
+    records = [bytes([1, 0, event, 0, site, 0, 0, 0, number, 0, 0, 0]) for number, (event, site) in enumerate([(0, 0), (1, 0), (3, 1), (1, 0), (2, 1)])]
+    return b"DCRTAPE\x02" + hashlib.sha256(head).digest() + bytes(24) + b"".join(records) + b"\x00"
+
+
+def with_calls(*calls):
+    """The case of examples/medication.json, where these are the calls of the one session."""
+    return json.dumps({**json.loads(read("examples/medication.json")), "sessions": [[*calls]]}).encode()
+
+
+def stored(folder, given, *words):
+    return dcr("run", *words, "--store", given=given, cwd=folder)
+
+
+def tape_of(folder):
+    with open(os.path.join(folder, "dcr.tape"), "rb") as file:
+        return file.read()
+
+
+def check_a_stored_run_leaves_a_tape():
+    for words in [(), ("--workers", "4")]:
+        with tempfile.TemporaryDirectory() as folder:
+            told = stored(folder, read("examples/medication.json"), *words)
+            want(told == (DONE, read("examples/medication.report"), b""), str(told))
+            want(os.listdir(folder) == ["dcr.tape"], "the folder has %s" % os.listdir(folder))
+            tape = tape_of(folder)
+            want(len(tape) == 125 and tape == medication_tape(), "the tape is %s" % tape.hex(" "))
+
+
+def check_a_second_stored_run_goes_on():
+    with tempfile.TemporaryDirectory() as folder:
+        want(stored(folder, with_calls("exec doctor pm"))[0] == DONE, "the first run")
+        status, report, _ = stored(folder, with_calls("exec doctor s"))
+        lines = report.decode().splitlines()
+        want(status == DONE and lines[3] == "open executed pm pending s,gm included pm,s,gm,dt", report.decode())
+        want(lines[4] == "0 0 0 exec doctor s done", report.decode())
+        want(tape_of(folder) == medication_tape()[:88] + b"\x00", "the tape is %s" % tape_of(folder).hex(" "))
+
+
+def check_a_case_over_two_days_goes_on():
+    with tempfile.TemporaryDirectory() as folder:
+        for day in ("monday", "tuesday"):
+            told = stored(folder, read("examples/stored/%s.json" % day))
+            want(told == (DONE, read("examples/stored/%s.report" % day), b""), "%s gives status %d and another report" % (day, told[0]))
+        # Made by several workers it is another run, and a valid one.
+        for day in ("monday", "tuesday"):
+            with tempfile.TemporaryDirectory() as other:
+                status, report, _ = stored(other, read("examples/stored/%s.json" % day), "--workers", "4")
+                count = report.rsplit(b"\nend ", 1)[1]
+                want(status == DONE and dcr("replay", given=report) == (DONE, b"valid " + count, b""), "%s by four workers" % day)
+
+
+def check_a_run_without_a_store_leaves_the_folder_alone():
+    with tempfile.TemporaryDirectory() as folder:
+        for words in [(), ("--workers", "4")]:
+            want(dcr("run", *words, given=read("examples/medication.json"), cwd=folder)[0] == DONE, "status")
+        want(not os.listdir(folder), "the folder has %s" % os.listdir(folder))
+        with open(os.path.join(folder, "dcr.tape"), "wb") as file:
+            file.write(b"anything")
+        want(dcr("run", given=read("examples/medication.json"), cwd=folder)[0] == DONE and tape_of(folder) == b"anything", "dcr.tape was read or written")
+
+
+def check_a_refused_case_makes_no_tape():
+    with tempfile.TemporaryDirectory() as folder:
+        for given, line in [(b"{", b"refused 2 not-json\n"), (read("examples/refused/9-clash.json"), b"refused 9 clash v w\n")]:
+            told = stored(folder, given)
+            want(told == (REFUSED, line, b"") and not os.listdir(folder), str(told))
+
+
+def check_a_file_that_is_no_tape_of_the_case_is_refused():
+    tape = medication_tape()
+    other = read("examples/first.json")
+    rows = [
+        (other, tape, b"tape other-case\n"),
+        (read("examples/medication.json"), bytes(10), b"tape not-tape\n"),
+        (read("examples/medication.json"), tape[:67] + b"\x09" + tape[68:], b"tape bad 0\n"),
+        (read("examples/medication.json"), tape[:124], b"tape bad 5\n"),
+    ]
+    for given, content, line in rows:
+        with tempfile.TemporaryDirectory() as folder:
+            with open(os.path.join(folder, "dcr.tape"), "wb") as file:
+                file.write(content)
+            told = stored(folder, given)
+            want(told == (TAPE_REFUSED, line, b""), "%s: %s" % (line, told))
+            want(tape_of(folder) == content, "%s: the file was written" % line)
+
+
+def check_an_empty_file_is_made_a_tape():
+    with tempfile.TemporaryDirectory() as folder:
+        with open(os.path.join(folder, "dcr.tape"), "wb"):
+            pass
+        want(stored(folder, read("examples/medication.json"))[0] == DONE and tape_of(folder) == medication_tape(), "the tape")
+
+
+def check_a_tape_that_can_not_be_opened_is_a_disk_fault():
+    with tempfile.TemporaryDirectory() as folder:
+        os.mkdir(os.path.join(folder, "dcr.tape"))
+        told = stored(folder, read("examples/medication.json"))
+        want(told == (DISK_FAULT, b"", b""), str(told))
+    with tempfile.TemporaryDirectory() as folder:
+        os.symlink("/nowhere/dcr.tape", os.path.join(folder, "dcr.tape"))
+        told = stored(folder, read("examples/medication.json"))
+        want(told == (DISK_FAULT, b"", b""), str(told))
+
+
+def check_a_tape_that_may_not_grow_ends_the_run():
+    with tempfile.TemporaryDirectory() as folder:
+        # (blocks of 512 bytes: one holds the header and 37 executions)
+        told = in_shell("ulimit -f 1; trap '' XFSZ; exec \"$@\"", "run", "--store", given=with_calls(*["exec doctor pm"] * 100), cwd=folder)
+        lines = told[1].decode().splitlines()
+        want(told[0] == DISK_FAULT and len(lines) < 100 and lines[-4].startswith("site doctor") and lines[-5].endswith("exec doctor pm faulted"), "\n".join(lines[-6:]))
+        want(dcr("replay", given=told[1])[0] == DONE, "the report is not valid")
+        status, report, _ = stored(folder, with_calls("exec doctor pm"))
+        want(status == DONE and b"open executed pm pending s,gm included" in report, "the tape can't be gone on from")
 
 
 # ---- inputs
