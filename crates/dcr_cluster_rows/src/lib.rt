@@ -1,22 +1,8 @@
-//! Worked rows of the cluster: calls one after the other and from many threads, on a tape and without one.
+//! A cluster of a case that was read, and the texts of cases, for the rows and programs that want one.
 #![tactic(auto)]
 
-#[cfg(test)]
-mod calls;
-#[cfg(test)]
-mod cases;
-#[cfg(test)]
-mod crashes;
-#[cfg(test)]
-mod gates;
 mod making;
-#[cfg(test)]
-mod playing;
-#[cfg(test)]
-mod tapes;
 mod texts;
-#[cfg(test)]
-mod threads;
 
 pub use making::{Parts, behind_case, is_in_range, no_tape, opened, parts_of, report_of};
 pub use texts::{
