@@ -1,6 +1,7 @@
 pub mod Asked
 pub mod Count
 pub mod Disk
+pub mod Door
 pub mod FileDisk
 pub mod ReadStop
 pub mod Status

@@ -3,9 +3,11 @@
 #![tactic(auto)]
 
 mod disk;
+mod door;
 mod failed;
 mod file_disk;
 mod gate;
+mod link;
 mod once;
 mod overwrite;
 mod reading;
@@ -17,9 +19,11 @@ mod std_source;
 mod writing;
 
 pub use disk::Disk;
+pub use door::Door;
 pub use failed::Failed;
 pub use file_disk::FileDisk;
 pub use gate::{Gate, OpenGate};
+pub use link::{Link, Spent};
 pub use once::{ReadOnce, WriteOnce};
 pub use overwrite::{read_from, write_over};
 pub use reading::{ReadStop, read_all};

@@ -7,3 +7,6 @@ pub mod SourceState
 pub mod MemSourceModel
 pub mod SinkState
 pub mod MemSinkModel
+pub mod LinkState
+pub mod DoorState
+pub mod MemDoorModel

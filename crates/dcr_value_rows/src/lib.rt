@@ -1,4 +1,4 @@
-//! Worked rows of the values: sets, pools, sources and sinks, decimal text, and the stand-ins of the outside.
+//! Worked rows of the values: sets, pools, sources and sinks, decimal text, lines, and the stand-ins of the outside.
 #![tactic(auto)]
 
 #[cfg(test)]
@@ -6,9 +6,13 @@ mod adapters;
 #[cfg(test)]
 mod base;
 #[cfg(test)]
+mod cutter;
+#[cfg(test)]
 mod disk;
 #[cfg(test)]
 mod fakes;
+#[cfg(test)]
+mod links;
 #[cfg(test)]
 mod pool;
 #[cfg(test)]
