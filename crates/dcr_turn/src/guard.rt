@@ -7,9 +7,8 @@ ghost use Rattle.dcr_turn.specs.PassValue.{HasMadeAll};
 ghost use Rattle.dcr_turn.specs.Pushing.{AllHear, EndsWithoutFault, ends_in_fault, entry_of, without_first};
 ghost use mir.Syntax.{named};
 
-use crate::desk::Desk;
 use crate::order::Order;
-use crate::turn::Locked;
+use crate::turn::{Beside, Locked};
 use crate::{Front, Keeps, Pass, TurnName};
 use dcr_journal::{Call, Entry, Outcome};
 use dcr_lock::Grip;
@@ -21,8 +20,7 @@ use std::marker::Model;
 pub struct TurnGuard<'a, K: Keeps, N: TurnName> {
     grip: Grip<'a, Locked<K, N>>,
     order: &'a Order<N>,
-    desk: Desk<N>,
-    kept: K,
+    beside: Box<Beside<K, N>>,
 }
 
 impl<'a, K: Keeps, N: TurnName> Model for TurnGuard<'a, K, N> {
@@ -30,7 +28,7 @@ impl<'a, K: Keeps, N: TurnName> Model for TurnGuard<'a, K, N> {
 
     ghost Value = { GuardValue K };
 
-    ghost view = { λ guard. record { entries = guard.desk.entries; enlisted = guard.desk.enlisted; kept = guard.kept } };
+    ghost view = { λ guard. record { entries = guard.beside.value.desk.entries; enlisted = guard.beside.value.desk.enlisted; kept = guard.beside.value.kept } };
 }
 
 impl<'a, K: Keeps, N: TurnName> TurnGuard<'a, K, N> {
@@ -42,16 +40,15 @@ impl<'a, K: Keeps, N: TurnName> TurnGuard<'a, K, N> {
         order: &'a Order<N>,
         locked: Locked<K, N>,
     ) -> TurnGuard<'a, K, N>
-        ensures entries { result.entries ≡ locked.desk.entries }
-        ensures enlisted { result.enlisted ≡ locked.desk.enlisted }
-        ensures kept { result.kept ≡ locked.kept }
+        ensures entries { result.entries ≡ locked.beside.value.desk.entries }
+        ensures enlisted { result.enlisted ≡ locked.beside.value.desk.enlisted }
+        ensures kept { result.kept ≡ locked.beside.value.kept }
     {
-        let Locked { desk, kept } = locked;
+        let Locked { beside } = locked;
         TurnGuard {
             grip,
             order,
-            desk,
-            kept,
+            beside,
         }
     }
 
@@ -64,7 +61,7 @@ impl<'a, K: Keeps, N: TurnName> TurnGuard<'a, K, N> {
         ensures made { pass.new.made ≡ pass.old.made }
         ensures seen { HasMadeAll pass.old self.old.entries }
     {
-        self.desk.meet(self.order, pass);
+        self.beside.desk.meet(self.order, pass);
     }
 
     /// The front lies beside the journal then. It begins the journal's list, and no execution after it was of its
@@ -74,7 +71,7 @@ impl<'a, K: Keeps, N: TurnName> TurnGuard<'a, K, N> {
         ensures seen { HasMissedNone N.turn front self.old.entries }
         ensures apart { ¬ Contains self.old.enlisted front.site }
     {
-        self.desk.enlist(self.order, front);
+        self.beside.desk.enlist(self.order, front);
     }
 
     /// Gives back the front of an enlisted site. It has seen the journal's list.
@@ -84,7 +81,7 @@ impl<'a, K: Keeps, N: TurnName> TurnGuard<'a, K, N> {
         ensures site { result.site ≡ site }
         ensures front { result.front ≡ self.old.entries }
     {
-        self.desk.dismiss(self.order, site)
+        self.beside.desk.dismiss(self.order, site)
     }
 
     /// Pushes the one entry of a call: of the pass's session, numbered by the calls that it made. The pass was met,
@@ -99,28 +96,28 @@ impl<'a, K: Keeps, N: TurnName> TurnGuard<'a, K, N> {
         ensures front { pass.new.front ≡ self.new.entries }
         ensures made { pass.new.made ≡ pass.old.made + 1 }
     {
-        self.desk.push(self.order, pass, call, outcome);
+        self.beside.desk.push(self.order, pass, call, outcome);
     }
 
     /// For how many more entries the journal has room.
     pub fn spare(&self) -> u32
         ensures { result + length self.now.entries ≡ N.capacity }
     {
-        self.desk.spare()
+        self.beside.desk.spare()
     }
 
     /// Whether the journal's list ends with a fault, which nobody can push behind.
     pub fn is_faulted(&self) -> bool
         ensures { result ≡ ends_in_fault self.now.entries }
     {
-        self.desk.is_faulted()
+        self.beside.desk.is_faulted()
     }
 
     /// The last entry of the journal. None exactly where there is none.
     pub fn last(&self) -> Option<Entry>
         ensures { result ≡ slice_get self.now.entries (length self.now.entries - 1) }
     {
-        self.desk.last()
+        self.beside.desk.last()
     }
 
     /// Lends the kept value, which may be changed at will.
@@ -128,7 +125,7 @@ impl<'a, K: Keeps, N: TurnName> TurnGuard<'a, K, N> {
         ensures* lends { sem 𝓛 (Lends (the_row (record { mir = named 1; lft = [] }) K.row N.row N.TurnName K.Keeps) K.row self.entry result (with_kept self.old)) }
         ensures value { result.now ≡ self.old.kept }
     {
-        &mut self.kept
+        &mut self.beside.kept
     }
 
     /// Gives the lock back. No front is enlisted, and the kept value stands for the journal's list.
@@ -139,9 +136,8 @@ impl<'a, K: Keeps, N: TurnName> TurnGuard<'a, K, N> {
         let TurnGuard {
             grip,
             order: _,
-            desk,
-            kept,
+            beside,
         } = self;
-        grip.join(Locked { desk, kept }).unlock();
+        grip.join(Locked { beside }).unlock();
     }
 }

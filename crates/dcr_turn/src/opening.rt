@@ -6,12 +6,12 @@ ghost use Rattle.dcr_turn.specs.Records.{all_know, everyone, journal_and_session
 use crate::desk::Desk;
 use crate::order::Order;
 use crate::records::Records;
-use crate::turn::Locked;
+use crate::turn::{Beside, Locked};
 use crate::{Front, Keeps, Pass, Turn, TurnBlank, TurnName, TurnRefused};
 use dcr_journal::Journal;
 use dcr_lock::{Row, RowRefused};
 use dcr_set::{NoMemory, SiteId};
-use std::alloc::Global;
+use std::alloc::{AllocFailed, Global};
 
 /// A turn whose memory was taken, but for its lock's: an empty journal, and nothing kept beside it yet.
 #[derive(Drop)]
@@ -64,7 +64,7 @@ impl<N: TurnName> TurnReady<N> {
         ensures { IfErr result (λ refused. refused.kept ≡ kept) }
     {
         let TurnReady { order, desk } = self;
-        let row = lay(alloc, Locked { desk, kept })?;
+        let row = lay(alloc, Beside { desk, kept })?;
         Ok(Turn::of(row, order))
     }
 }
@@ -72,19 +72,26 @@ impl<N: TurnName> TurnReady<N> {
 // A row of the one place.
 fn lay<K: Keeps, N: TurnName>(
     alloc: Global,
-    locked: Locked<K, N>,
+    beside: Beside<K, N>,
 ) -> Result<Row<Locked<K, N>>, TurnRefused<K>>
-    requires enlisted { locked.desk.enlisted ≡ [] }
-    requires kept { K.stands locked.desk.entries locked.kept }
+    requires enlisted { beside.desk.enlisted ≡ [] }
+    requires kept { K.stands beside.desk.entries beside.kept }
     ensures one { IfOk result (λ row. row ≡ 1) }
-    ensures refused { IfErr result (λ refused. refused.kept ≡ locked.kept) }
+    ensures refused { IfErr result (λ refused. refused.kept ≡ beside.kept) }
 {
+    let beside = match Box::new(alloc, beside) {
+        Ok(beside) => beside,
+        Err(AllocFailed { value }) => {
+            let Beside { desk: _, kept } = value;
+            return Err(TurnRefused { kept });
+        }
+    };
     let room = Vec::with_capacity(alloc, 1);
     let Ok(mut values) = room else {
-        let Locked { desk: _, kept } = locked;
+        let Beside { desk: _, kept } = Box::into_inner(beside);
         return Err(TurnRefused { kept });
     };
-    values.push_reserved(locked);
+    values.push_reserved(Locked { beside });
     let opened = Row::open(alloc, values);
     let refused = match opened {
         Ok(row) => return Ok(row),
@@ -92,9 +99,11 @@ fn lay<K: Keeps, N: TurnName>(
     };
     let RowRefused { mut values } = refused;
     let popped = values.pop();
-    let Some(locked) = popped else { unreachable!() };
+    let Some(Locked { beside }) = popped else {
+        unreachable!()
+    };
     values.destroy_empty();
-    let Locked { desk: _, kept } = locked;
+    let Beside { desk: _, kept } = Box::into_inner(beside);
     Err(TurnRefused { kept })
 }
 

@@ -12,17 +12,24 @@ use dcr_lock::{Placed, Row};
 use std::alloc::Global;
 use std::sync::Wait;
 
-/// What lies under the journal's lock.
+/// The journal and what is kept beside it.
 #[derive(Drop)]
-pub(crate) struct Locked<K, N: TurnName> {
+pub(crate) struct Beside<K, N: TurnName> {
     pub(crate) desk: Desk<N>,
     pub(crate) kept: K,
+}
+
+/// What lies under the journal's lock. It has memory of its own, so that little is moved when the lock is taken and given
+/// back.
+#[derive(Drop)]
+pub(crate) struct Locked<K, N: TurnName> {
+    pub(crate) beside: Box<Beside<K, N>>,
 }
 
 impl<K: Keeps, N: TurnName> Placed for Locked<K, N> {
     ghost use Rattle.std.specs.Prelude.{◌≡◌, []};
 
-    ghost belongs = { λ _ locked. (locked.desk.enlisted ≡ []) × K.stands locked.desk.entries locked.kept };
+    ghost belongs = { λ _ locked. (locked.beside.value.desk.enlisted ≡ []) × K.stands locked.beside.value.desk.entries locked.beside.value.kept };
 }
 
 /// The journal and a kept value behind one lock: the one order of all calls. Threads share it by reference.
@@ -108,7 +115,8 @@ impl<K: Keeps, N: TurnName> Turn<K, N> {
     {
         let Turn { row, order } = self;
         let mut end = row.close();
-        let Locked { mut desk, kept } = end.take(rt);
+        let Locked { beside } = end.take(rt);
+        let Beside { mut desk, kept } = Box::into_inner(beside);
         end.finish();
         desk.enlist_all(&order, fronts);
         desk.meet_all(&order, passes);
