@@ -29,7 +29,7 @@ use Rattle.dcr_tape.specs.declared.tape.Store.{Store}
 use Rattle.dcr_turn.specs.FrontValue.{FrontValue, HasMissedNone}
 use Rattle.dcr_turn.specs.Pushing.{AllHear}
 use Rattle.dcr_turn.specs.TurnId.{TurnId}
-use Rattle.dcr_cell.specs.Asking.{Found, FoundAt, WillHold, sites_for, sites_of, unasked}
+use Rattle.dcr_cell.specs.Asking.{AreEnough, Found, FoundAt, WillHold, sites_for, sites_of, unasked}
 use Rattle.dcr_cell.specs.ClusterId.{ClusterId, IsNamed, IsCall, alphabet_of, marking_after, answer_after}
 use Rattle.dcr_cell.specs.Keeping.{IsToldAs, as_found, as_fault}
 use Rattle.dcr_cell.specs.Laws.{asked, waits_by}
@@ -96,15 +96,22 @@ settled_exec c turn i e fronts found named is_call false owned are is = λ J cal
     is.nowhere (no_fronts fronts are) ∙ sym (ap (λ (b : Bool). cond b (outcome_of (cause c.rules (marking_after c J) e)) NotHere) owned)
 
 -- what was found at all sites of a call is the graph's answer
-pub settled : (c : ClusterId) (turn : TurnId) (call : Call) (fronts : List FrontValue) (found : Outcome) → IsNamed c turn → IsCall c call
+settled_by_all : (c : ClusterId) (turn : TurnId) (call : Call) (fronts : List FrontValue) (found : Outcome) → IsNamed c turn → IsCall c call
     → sites_of fronts ≡ sites_for c turn call → Found c call fronts found → WillHold c turn call fronts found
-settled c turn (Exec i e) fronts found named is_call are is =
+settled_by_all c turn (Exec i e) fronts found named is_call are is =
     settled_exec c turn i e fronts found named is_call (has (row c.owned i) e) refl are is
-settled c turn (Look i) fronts found named is_call are is =
+settled_by_all c turn (Look i) fronts found named is_call are is =
     settled_one c turn (Look i) fronts found named is_call is i refl (subst (λ (sites : List ℕ). Contains sites i) (sym are) (0, omega arith, refl))
-settled c turn (Enabled i) fronts found named is_call are is =
+settled_by_all c turn (Enabled i) fronts found named is_call are is =
     settled_one c turn (Enabled i) fronts found named is_call is i refl (subst (λ (sites : List ℕ). Contains sites i) (sym are) (0, omega arith, refl))
-settled c turn Accepting fronts found named is_call are is = λ J calls none. is.all refl ∙ waits_hold c turn fronts J named are calls none
+settled_by_all c turn Accepting fronts found named is_call are is = λ J calls none. is.all refl ∙ waits_hold c turn fronts J named are calls none
+
+-- and so it is where the locks are enough
+pub settled : (c : ClusterId) (turn : TurnId) (call : Call) (fronts : List FrontValue) (found : Outcome) → IsNamed c turn → IsCall c call
+    → AreEnough c turn call (sites_of fronts) found → Found c call fronts found → WillHold c turn call fronts found
+settled c turn call fronts found named is_call (inl are) is = settled_by_all c turn call fronts found named is_call are is
+settled c turn call fronts found named is_call (inr one) is =
+    settled_one c turn call fronts found named is_call is one.site one.asks (subst (λ (sites : List ℕ). Contains sites one.site) (sym one.alone) (0, omega arith, refl))
 
 -- ---- that all hear
 
@@ -121,14 +128,20 @@ hear_exec c turn i e fronts found false are is = λ event done k hears.
     absurd (let none : None ≡ Some event = ap (event_done (Exec i e)) (sym (is.nowhere (no_fronts fronts are))) ∙ done in cc)
 
 -- and all that must hear of it are among them
-pub hear_all : (c : ClusterId) (turn : TurnId) (call : Call) (fronts : List FrontValue) (found : Outcome) → IsNamed c turn → IsCall c call
+hear_by_all : (c : ClusterId) (turn : TurnId) (call : Call) (fronts : List FrontValue) (found : Outcome) → IsNamed c turn → IsCall c call
     → sites_of fronts ≡ sites_for c turn call → Found c call fronts found → AllHear turn.alphabets (sites_of fronts) call found
-hear_all c turn (Exec i e) fronts found named is_call are is = hear_exec c turn i e fronts found (has (row c.owned i) e) are is
-hear_all c turn (Look i) fronts found named is_call are is = λ event done k hears. absurd cc
-hear_all c turn (Enabled i) fronts found named is_call are is = λ event done k hears. absurd cc
-hear_all c turn Accepting fronts found named is_call are is = λ event done k hears. absurd cc
+hear_by_all c turn (Exec i e) fronts found named is_call are is = hear_exec c turn i e fronts found (has (row c.owned i) e) are is
+hear_by_all c turn (Look i) fronts found named is_call are is = λ event done k hears. absurd cc
+hear_by_all c turn (Enabled i) fronts found named is_call are is = λ event done k hears. absurd cc
+hear_by_all c turn Accepting fronts found named is_call are is = λ event done k hears. absurd cc
 
-no_event : (call : Call) → event_done call Faulted ≡ None
+-- and so they are where the locks are enough
+pub hear_all : (c : ClusterId) (turn : TurnId) (call : Call) (fronts : List FrontValue) (found : Outcome) → IsNamed c turn → IsCall c call
+    → AreEnough c turn call (sites_of fronts) found → Found c call fronts found → AllHear turn.alphabets (sites_of fronts) call found
+hear_all c turn call fronts found named is_call (inl are) is = hear_by_all c turn call fronts found named is_call are is
+hear_all c turn call fronts found named is_call (inr one) is = λ event done k hears. absurd (let none : None ≡ Some event = sym one.spares ∙ done in cc)
+
+pub no_event : (call : Call) → event_done call Faulted ≡ None
 no_event (Exec i e) = refl
 no_event (Look i) = refl
 no_event (Enabled i) = refl

@@ -1,5 +1,5 @@
 ghost use Rattle.std.specs.Prelude.{◌≡◌, ℕ, Option, Some};
-ghost use Rattle.dcr_journal.specs.Answer.{verdict_of};
+ghost use Rattle.dcr_journal.specs.Answer.{outcome_decided, verdict_of};
 ghost use Rattle.dcr_cell.specs.Laws.{asked};
 ghost use Rattle.dcr_set.specs.Least.{lesser};
 
@@ -7,7 +7,7 @@ use crate::ClusterName;
 use dcr_journal::{Call, Outcome};
 use dcr_lock::Placed;
 use dcr_set::{EventId, SiteId};
-use dcr_site::Site;
+use dcr_site::{Decision, Site};
 use dcr_turn::Front;
 
 /// What lies under the lock of a site: its part of the rules with its marks, and how much of the journal it has seen.
@@ -25,7 +25,8 @@ impl<N: ClusterName> Placed for Cell<N> {
 }
 
 impl<N: ClusterName> Cell<N> {
-    ghost use Rattle.std.specs.Prelude.{◌≡◌, ◌<◌, List, [], ◌∷◌, ◌++◌, length, Some};
+    ghost use Rattle.std.specs.Prelude.{◌≡◌, ◌≢◌, ◌<◌, ℕ, List, [], ◌∷◌, ◌++◌, length, Some};
+    ghost use Rattle.dcr_journal.specs.declared.call.Call.TheVariants.{Exec};
     ghost use Rattle.dcr_turn.specs.FrontValue.{FrontValue};
     ghost use Rattle.dcr_cell.specs.Asking.{Found};
     ghost use Rattle.dcr_cell.specs.CellStands.{CellStands};
@@ -51,9 +52,7 @@ impl<N: ClusterName> Cell<N> {
         }
     }
 
-    // What the one site that a call asks answers. It stands by itself, since room for three outcomes is cleared where it
-    // begins, which other sites need not wait for.
-    #[inline(never)]
+    // What the one site that a call asks answers.
     fn answer(&self, call: &Call, told: &mut Outcome)
         requires named { IsNamed N.cluster N.turn }
         requires call { IsCall N.cluster call.now }
@@ -63,12 +62,38 @@ impl<N: ClusterName> Cell<N> {
         ensures { told.new ≡ answer_after N.cluster self.now.front.front call.now }
     {
         match call {
-            Call::Exec(_, e) => *told = Outcome::of_decision(self.site.decide(*e)),
-            Call::Look(_) => *told = Outcome::Marks(self.site.mark()),
-            Call::Enabled(_) => *told = Outcome::Can(self.site.can()),
-            Call::Accepting => unreachable!(),
+            Call::Exec(_, e) => decided(self.site.decide(*e), told),
+            _ => self.show(call, told),
         }
     }
+
+    // The same of a call that is no execution. It stands by itself, since room for sets of events is cleared where it
+    // begins, which executions need not wait for.
+    #[inline(never)]
+    fn show(&self, call: &Call, told: &mut Outcome)
+        requires named { IsNamed N.cluster N.turn }
+        requires call { IsCall N.cluster call.now }
+        requires asked { asked call.now ≡ Some self.now.front.site }
+        requires other { (i e : ℕ) → call.now ≢ Exec i e }
+        requires site { self.now.front.site < length N.cluster.owned }
+        requires stands { CellStands N.cluster self.now.front.site self.now.site.value self.now.front }
+        ensures { told.new ≡ answer_after N.cluster self.now.front.front call.now }
+    {
+        match call {
+            Call::Look(_) => *told = Outcome::Marks(self.site.mark()),
+            Call::Enabled(_) => *told = Outcome::Can(self.site.can()),
+            Call::Exec(..) | Call::Accepting => unreachable!(),
+        }
+    }
+}
+
+// What an execution is told of which a site decides this. It stands by itself, since room for an outcome is cleared where
+// it begins.
+#[inline(never)]
+fn decided(decision: Decision, told: &mut Outcome)
+    ensures { told.new ≡ outcome_decided decision }
+{
+    *told = Outcome::of_decision(decision);
 }
 
 // The one site that a call asks. None where it asks all.

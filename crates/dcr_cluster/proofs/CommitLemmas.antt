@@ -13,7 +13,7 @@ use Rattle.dcr_turn.specs.GuardValue.{GuardValue}
 use Rattle.dcr_turn.specs.PassValue.{PassValue, HasMadeAll}
 use Rattle.dcr_turn.specs.Pushing.{AllHear, entry_of}
 use Rattle.dcr_turn.specs.TurnId.{TurnId}
-use Rattle.dcr_cell.specs.Asking.{Found, sites_for, sites_of}
+use Rattle.dcr_cell.specs.Asking.{AreEnough, Found, sites_of}
 use Rattle.dcr_cell.specs.ClusterId.{ClusterId, IsNamed, IsCall, IsRunOf, answer_after}
 use Rattle.dcr_cell.specs.Keeping.{IsToldAs, StandsBy}
 use Rattle.dcr_cell.specs.declared.kept.Kept.{Kept}
@@ -25,7 +25,7 @@ use Rattle.dcr_cluster.specs.declared.halt.Halt.{Halt}
 
 -- what was found at all sites of a call is the answer after the entries that the journal has
 holds : (c : ClusterId) (turn : TurnId) (call : Call) (fronts : List FrontValue) (found : Outcome) (J : List Entry) → IsNamed c turn → IsCall c call
-    → sites_of fronts ≡ sites_for c turn call → Found c call fronts found → IsRunOf c J → All (λ f. HasMissedNone turn f J) fronts → found ≡ answer_after c J call
+    → AreEnough c turn call (sites_of fronts) found → Found c call fronts found → IsRunOf c J → All (λ f. HasMissedNone turn f J) fronts → found ≡ answer_after c J call
 holds c turn call fronts found J named is_call asked is run none = settled c turn call fronts found named is_call asked is J (calls_of_run c J run) none
 
 entry_alike : (before met : PassValue) (call : Call) (outcome : Outcome) → met.session ≡ before.session → met.made ≡ before.made → entry_of met call outcome ≡ entry_of before call outcome
@@ -68,7 +68,7 @@ module _ {D N : Type 0} (view : D → DiskView) (faults : D → ℕ) (c : Cluste
   pub ready_met : (turn : TurnId) (locked met : GuardValue (Kept D N)) (before pass : PassValue) (fronts : List FrontValue) (call : Call) (found : Outcome)
       → IsNamed c turn → capacity ≤ 200000 → IsCall c call → met ≡ locked → locked.enlisted ≡ [] → StandsBy view faults c first locked.entries locked.kept.store
       → pass.session ≡ before.session → pass.front ≡ locked.entries → pass.made ≡ before.made → HasMadeAll before locked.entries
-      → sites_of fronts ≡ sites_for c turn call → Found c call fronts found
+      → AreEnough c turn call (sites_of fronts) found → Found c call fronts found
       → MayEnter view faults c first capacity turn met pass call found (sites_of fronts ++ met.enlisted)
   ready_met turn locked met before pass fronts call found named most is_call same none stands session front made seen asked is_found =
       subst (λ (g : GuardValue (Kept D N)). MayEnter view faults c first capacity turn g pass call found (sites_of fronts ++ g.enlisted)) (sym same) record {
@@ -84,7 +84,7 @@ module _ {D N : Type 0} (view : D → DiskView) (faults : D → ℕ) (c : Cluste
 
   -- the kept value stands for the list when the call has entered
   pub still_stands : (turn : TurnId) (met new : GuardValue (Kept D N)) (pass after : PassValue) (fronts fronts_after : List FrontValue) (call : Call) (found : Outcome) (sites : List ℕ) (result : Result Outcome Halt)
-      → sites_of fronts ≡ sites_for c turn call → Found c call fronts found → MayEnter view faults c first capacity turn met pass call found sites
+      → AreEnough c turn call (sites_of fronts) found → Found c call fronts found → MayEnter view faults c first capacity turn met pass call found sites
       → Entered view faults c first capacity turn met new pass after fronts fronts_after call found result → StandsBy view faults c first new.entries new.kept.store
   still_stands turn met new pass after fronts fronts_after call found sites result asked is ready entered =
       stands_then met new pass after call found result entered.pushed.call_ends
@@ -93,7 +93,7 @@ module _ {D N : Type 0} (view : D → DiskView) (faults : D → ℕ) (c : Cluste
   -- and the call has been made
   pub entered_is_made : (turn : TurnId) (locked met new : GuardValue (Kept D N)) (before pass after : PassValue) (fronts fronts_after : List FrontValue) (call : Call) (found : Outcome) (sites : List ℕ)
       (result : Result Outcome Halt) → met ≡ locked → HasMadeAll before locked.entries → pass.session ≡ before.session → pass.made ≡ before.made
-      → sites_of fronts ≡ sites_for c turn call → Found c call fronts found → MayEnter view faults c first capacity turn met pass call found sites
+      → AreEnough c turn call (sites_of fronts) found → Found c call fronts found → MayEnter view faults c first capacity turn met pass call found sites
       → Entered view faults c first capacity turn met new pass after fronts fronts_after call found result
       → Made c first capacity turn before after fronts fronts_after call result
   entered_is_made turn locked met new before pass after fronts fronts_after call found sites result same seen session made asked is ready entered = record {

@@ -4,6 +4,7 @@ mod EnterLemmas
 mod CommitLemmas
 mod NeededLemmas
 mod GatherLemmas
+mod BlockLemmas
 pub mod OpeningLemmas
 mod OpenLemmas
 mod PoppingLemmas

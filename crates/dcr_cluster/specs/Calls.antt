@@ -74,3 +74,15 @@ pub record Made {D : Type 0} (c : ClusterId) (first : Option (Store D)) (capacit
   pub J : List Entry
   pub ends : EndsAfter c first capacity J before after call result
   pub returned : Returned turn J after.front fronts fronts_after
+
+-- nothing was done yet: the pass, the fronts and what was found are as they were
+pub record Untried (before after : PassValue) (fronts fronts_after : List FrontValue) (found told : Outcome) : Type 0 where
+  pub same_pass : after ≡ before
+  pub same_fronts : fronts_after ≡ fronts
+  pub same_found : told ≡ found
+
+-- A call was tried with fewer locks than it may want, and has come to its end, or nothing was done.
+abbrev pub Tried : {D : Type 0} → ClusterId → Option (Store D) → ℕ → TurnId → PassValue → PassValue → List FrontValue → List FrontValue → Call → Outcome → Outcome
+    → Option (Result (Unit {0}) Halt) → Type 0
+Tried c first capacity turn before after fronts fronts_after call found told (Some ended) = Made c first capacity turn before after fronts fronts_after call (ending told ended)
+Tried c first capacity turn before after fronts fronts_after call found told None = Untried before after fronts fronts_after found told

@@ -1,9 +1,9 @@
 ghost use Rattle.std.specs.Prelude.{◌≡◌, List, [], ◌++◌, length, IfOk, IfErr};
 ghost use Rattle.std.specs.List.{All};
 ghost use Rattle.dcr_journal.specs.declared.call.Entry.{Entry};
-ghost use Rattle.dcr_cell.specs.Asking.{sites_for, sites_of, unasked, Found};
+ghost use Rattle.dcr_cell.specs.Asking.{AreEnough, sites_for, sites_of, unasked, Found};
 ghost use Rattle.dcr_cell.specs.ClusterId.{IsCall};
-ghost use Rattle.dcr_cluster.specs.Calls.{AnsweredAfter, HaltedAfter, Made, done_by, ending};
+ghost use Rattle.dcr_cluster.specs.Calls.{AnsweredAfter, HaltedAfter, Made, Tried, done_by, ending};
 
 use crate::front_row::FrontRow;
 use crate::push::enter;
@@ -22,8 +22,9 @@ impl<D: Disk, G: Gate, N: StoreName<D>> Cluster<D, G, N> {
     /// Makes one call of the pass's session, and answers what the graph answers after all entries before it. It takes the
     /// locks of the sites that it asks in ascending order, each site answering by its own marks, comes by the gate, takes
     /// the journal's lock and pushes its one entry; an execution that was done is then applied at each site that must
-    /// hear of it. An execution by a site that doesn't own the event takes no site's lock. It waits for each lock, and
-    /// takes no memory.
+    /// hear of it. An execution that several sites must hear of first asks its own site alone, and takes no other site's
+    /// lock where that blocks it. An execution by a site that doesn't own the event takes no site's lock. It waits for
+    /// each lock, and takes no memory.
     ///
     /// `Faulted` comes where the execution could be done and the tape failed to keep it; no mark changed then. `Stopped`
     /// comes exactly where a fault ends the entries before it, else `Full` exactly where they are as many as there may
@@ -35,11 +36,33 @@ impl<D: Disk, G: Gate, N: StoreName<D>> Cluster<D, G, N> {
     {
         let mut fronts = FrontRow::new();
         let mut told = unasked(&call);
-        let needed = self.needed(&call);
-        match self.gather(rt, pass, &mut fronts, &call, needed, &mut told) {
+        match self.make(rt, pass, &mut fronts, &call, &mut told) {
             Ok(()) => Ok(told),
             Err(halt) => Err(halt),
         }
+    }
+
+    // Makes the call, with as few locks as it wants.
+    fn make<R: Wait>(
+        &self,
+        rt: &R,
+        pass: &mut Pass<N>,
+        fronts: &mut FrontRow<N>,
+        call: &Call,
+        found: &mut Outcome,
+    ) -> Result<(), Halt>
+        requires call { IsCall N.cluster call.now }
+        requires none { fronts.old ≡ [] }
+        requires unasked { found.old ≡ unasked call.now }
+        ensures { Made N.cluster N.first N.capacity N.turn pass.old pass.new fronts.old fronts.new call.now (ending found.new result) }
+    {
+        let needed = self.needed(call);
+        if needed.len() > 1 {
+            if let Some(ended) = self.block(rt, pass, fronts, call, found) {
+                return ended;
+            }
+        }
+        self.gather(rt, pass, fronts, call, needed, found)
     }
 
     // The sites whose locks the call takes.
@@ -60,6 +83,41 @@ impl<D: Disk, G: Gate, N: StoreName<D>> Cluster<D, G, N> {
             Call::Look(i) | Call::Enabled(i) => slice::from_ref(&self.every[usize::from(i.0)]),
             Call::Accepting => self.every.as_slice(),
         }
+    }
+
+    // Makes the call where it is an execution that its site blocks, with the lock of that site alone. None of any other
+    // call, and where the site doesn't block it: nothing was done then.
+    fn block<R: Wait>(
+        &self,
+        rt: &R,
+        pass: &mut Pass<N>,
+        fronts: &mut FrontRow<N>,
+        call: &Call,
+        found: &mut Outcome,
+    ) -> Option<Result<(), Halt>>
+        requires call { IsCall N.cluster call.now }
+        requires none { fronts.old ≡ [] }
+        requires unasked { found.old ≡ unasked call.now }
+        ensures { Tried N.cluster N.first N.capacity N.turn pass.old pass.new fronts.old fronts.new call.now found.old found.new result }
+    {
+        let Call::Exec(site, _) = call else {
+            return None;
+        };
+        let (grip, own) = self.cells.lock(rt, site.0).split();
+        own.ask(call, found);
+        if let Outcome::Done = found {
+            grip.join(own).unlock();
+            *found = Outcome::NotHere;
+            return None;
+        }
+        let Cell { site, front: seen } = own;
+        fronts.push(seen);
+        let ended = self.commit(rt, pass, fronts, call, found);
+        let Some(front) = fronts.pop() else {
+            unreachable!()
+        };
+        grip.join(Cell { site, front }).unlock();
+        Some(ended)
     }
 
     // Takes the locks of the sites that are left, one after the other, and asks each; makes the call; and gives the
@@ -110,7 +168,7 @@ impl<D: Disk, G: Gate, N: StoreName<D>> Cluster<D, G, N> {
     ) -> Result<(), Halt>
         requires call { IsCall N.cluster call.now }
         requires few { length fronts.old ≤ 64 }
-        requires sites { sites_of fronts.old ≡ sites_for N.cluster N.turn call.now }
+        requires enough { AreEnough N.cluster N.turn call.now (sites_of fronts.old) found.old }
         requires found { Found N.cluster call.now fronts.old found.old }
         ensures { Made N.cluster N.first N.capacity N.turn pass.old pass.new fronts.old fronts.new call.now (ending found.new result) }
     {

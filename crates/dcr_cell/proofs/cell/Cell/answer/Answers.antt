@@ -17,4 +17,4 @@ returns-in-Exec g c =
     let stands : StandsAt cluster.rules (row cluster.owned front.site) M c.deref.result.now =
     subst (λ (site : Seen). StandsAt cluster.rules (row cluster.owned front.site) M site) (sym c.deref.ensures) c.requires.stands.stands in
     let found = c.decide.ensures cluster.rules (row cluster.owned front.site) M stands in
-    c.of_decision.ensures ∙ ap outcome_decided found ∙ decided_is cluster.rules cluster.owned front.site c.in-Exec.e M ∙ sym (ap (answer_after cluster front.front) is_here)
+    c.decided.ensures ∙ ap outcome_decided found ∙ decided_is cluster.rules cluster.owned front.site c.in-Exec.e M ∙ sym (ap (answer_after cluster front.front) is_here)

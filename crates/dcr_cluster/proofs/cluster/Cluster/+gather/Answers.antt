@@ -1,4 +1,4 @@
-use Rattle.std.proofs.Common.{◌≡◌, true, List, length, ◌<◌, ◌≤◌, ◌+◌, sym, ap, ◌∙◌, subst, arith}
+use Rattle.std.proofs.Common.{◌≡◌, inl, true, List, length, ◌<◌, ◌≤◌, ◌+◌, sym, ap, ◌∙◌, subst, arith}
 use Rattle.dcr_set.specs.EventSet.{has}
 use Rattle.dcr_site.specs.Seen.{Seen, StandsAt}
 use Rattle.dcr_turn.specs.FrontValue.{FrontValue}
@@ -19,7 +19,7 @@ commit-requires g t c = (
     c.requires.call,
     (
       omega (arith, c.requires.few),
-      (all_asked (sites_of c.args.fronts.now) c.args.left.now (sites_for g.N.ClusterName.cluster g.N.TurnName.turn c.args.call.now) c.in_default.ensures.cases c.requires.sites, c.requires.found),
+      (inl (all_asked (sites_of c.args.fronts.now) c.args.left.now (sites_for g.N.ClusterName.cluster g.N.TurnName.turn c.args.call.now) c.in_default.ensures.cases c.requires.sites), c.requires.found),
     ),
   ),
 )

@@ -11,7 +11,7 @@ enter-ended-requires g c =
     (sites_of c.args.fronts.now ++ c.meet.new.self.enlisted) =
     ready_met g.D.Disk.view g.D.Disk.faults g.N.ClusterName.cluster g.N.StoreName.first g.N.TurnName.capacity g.N.TurnName.turn c.lock-guard.result c.meet.new.self c.args.pass.now
     c.meet.new.pass c.args.fronts.now c.args.call.now c.args.found.now c.self.invariant.0.named c.self.invariant.0.most_entries c.requires.call c.meet.ensures.same c.lock-guard.ensures.enlisted
-    c.lock-guard.ensures.kept c.meet.ensures.session c.meet.ensures.front c.meet.ensures.made c.meet.ensures.seen c.requires.sites c.requires.found in
+    c.lock-guard.ensures.kept c.meet.ensures.session c.meet.ensures.front c.meet.ensures.made c.meet.ensures.seen c.requires.enough c.requires.found in
     (omega arith, (c.requires.few, ready))
 
 pub unlock-requires-clause-kept : goal.unlock-requires-clause-kept
@@ -20,10 +20,10 @@ unlock-requires-clause-kept g c =
     (sites_of c.args.fronts.now ++ c.meet.new.self.enlisted) =
     ready_met g.D.Disk.view g.D.Disk.faults g.N.ClusterName.cluster g.N.StoreName.first g.N.TurnName.capacity g.N.TurnName.turn c.lock-guard.result c.meet.new.self c.args.pass.now
     c.meet.new.pass c.args.fronts.now c.args.call.now c.args.found.now c.self.invariant.0.named c.self.invariant.0.most_entries c.requires.call c.meet.ensures.same c.lock-guard.ensures.enlisted
-    c.lock-guard.ensures.kept c.meet.ensures.session c.meet.ensures.front c.meet.ensures.made c.meet.ensures.seen c.requires.sites c.requires.found in
+    c.lock-guard.ensures.kept c.meet.ensures.session c.meet.ensures.front c.meet.ensures.made c.meet.ensures.seen c.requires.enough c.requires.found in
     still_stands g.D.Disk.view g.D.Disk.faults g.N.ClusterName.cluster g.N.StoreName.first g.N.TurnName.capacity g.N.TurnName.turn c.meet.new.self c.enter-ended.new.guard c.meet.new.pass
     c.enter-ended.new.pass c.args.fronts.now c.enter-ended.new.fronts c.args.call.now c.args.found.now (sites_of c.args.fronts.now ++ c.meet.new.self.enlisted) (ending c.enter-ended.new.found c.enter-ended.result)
-    c.requires.sites c.requires.found ready c.enter-ended.ensures
+    c.requires.enough c.requires.found ready c.enter-ended.ensures
 
 pub returns : goal.returns
 returns g c =
@@ -31,7 +31,7 @@ returns g c =
     (sites_of c.args.fronts.now ++ c.meet.new.self.enlisted) =
     ready_met g.D.Disk.view g.D.Disk.faults g.N.ClusterName.cluster g.N.StoreName.first g.N.TurnName.capacity g.N.TurnName.turn c.lock-guard.result c.meet.new.self c.args.pass.now
     c.meet.new.pass c.args.fronts.now c.args.call.now c.args.found.now c.self.invariant.0.named c.self.invariant.0.most_entries c.requires.call c.meet.ensures.same c.lock-guard.ensures.enlisted
-    c.lock-guard.ensures.kept c.meet.ensures.session c.meet.ensures.front c.meet.ensures.made c.meet.ensures.seen c.requires.sites c.requires.found in
+    c.lock-guard.ensures.kept c.meet.ensures.session c.meet.ensures.front c.meet.ensures.made c.meet.ensures.seen c.requires.enough c.requires.found in
     entered_is_made g.D.Disk.view g.D.Disk.faults g.N.ClusterName.cluster g.N.StoreName.first g.N.TurnName.capacity g.N.TurnName.turn c.lock-guard.result c.meet.new.self c.enter-ended.new.guard
     c.args.pass.now c.meet.new.pass c.enter-ended.new.pass c.args.fronts.now c.enter-ended.new.fronts c.args.call.now c.args.found.now (sites_of c.args.fronts.now ++ c.meet.new.self.enlisted)
-    (ending c.enter-ended.new.found c.enter-ended.result) c.meet.ensures.same c.meet.ensures.seen c.meet.ensures.session c.meet.ensures.made c.requires.sites c.requires.found ready c.enter-ended.ensures
+    (ending c.enter-ended.new.found c.enter-ended.result) c.meet.ensures.same c.meet.ensures.seen c.meet.ensures.session c.meet.ensures.made c.requires.enough c.requires.found ready c.enter-ended.ensures
