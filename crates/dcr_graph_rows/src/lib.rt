@@ -1,4 +1,4 @@
-//! Worked rows over graphs of four atoms: the plain engine, projections, sites, journals, runs and lines.
+//! Worked rows over graphs of four atoms: the plain engine, projections, sites, journals and lines.
 #![tactic(auto)]
 
 #[cfg(test)]
@@ -17,7 +17,5 @@ mod mark;
 mod names;
 #[cfg(test)]
 mod proj;
-#[cfg(test)]
-mod run;
 #[cfg(test)]
 mod site;

@@ -15,9 +15,7 @@ use Rattle.dcr_set.proofs.ListLemmas.{set_cases}
 use Rattle.dcr_graph.specs.Rules.{Rules}
 use Rattle.dcr_graph.specs.Rows.{row}
 use Rattle.dcr_graph.specs.Step.{step}
-use Rattle.dcr_graph.specs.Projection.{project}
 use Rattle.dcr_graph.specs.declared.marking.Marking.{Marking}
-use Rattle.dcr_journal.specs.Run.{marks_at}
 use Rattle.dcr_proj.specs.CoverValue.{atoms_of}
 use Rattle.dcr_proj.specs.NetworkValue.{IsNetwork, participants_of}
 use Rattle.dcr_proj.proofs.NetworkLemmas.{hears, participant_hears, hears_participant, participants_ascend, participants_below}
@@ -180,18 +178,3 @@ heard_alphabets e before after heard =
     get_or-map (λ (s : Seen). s.projection.alphabet) after j site.0 [] within ∙ ap (λ (s : Seen). s.projection.alphabet) (get_or_from_slice_get after j site.0 site.0 site.1)
     ∙ ap (λ P. P.alphabet) was.2.projection
     ∙ sym (get_or-map (λ (s : Seen). s.projection.alphabet) before j was.0 [] (slice_get_within before j was.0 was.1) ∙ ap (λ (s : Seen). s.projection.alphabet) (get_or_from_slice_get before j was.0 was.0 was.1)))
-
--- ---- what the sites tell together
-
-pub marks_are : (G : Rules) (C : List Set) (M : Marking) (sites : List Seen) → AllStand G C M sites → map (λ (site : Seen). site.mark) sites ≡ marks_at G C M
-marks_are G [] M [] stand = refl
-marks_are G (S ∷ C) M [] stand = absurd (let room = stand.as_many in omega arith)
-marks_are G C M (first ∷ sites) stand =
-    ext_get_or (project G [] M) (map (λ (site : Seen). site.mark) (first ∷ sites)) (marks_at G C M)
-    (length-map (first ∷ sites) (λ (site : Seen). site.mark) ∙ stand.as_many ∙ sym (length-map C (λ S. project G S M)))
-    (λ i l.
-    let below : i < length (first ∷ sites) = (let len = length-map (first ∷ sites) (λ (site : Seen). site.mark) in omega arith) in
-    let within : i < length C = (let len = stand.as_many in omega arith) in
-    get_or-map (λ (site : Seen). site.mark) (first ∷ sites) i first (project G [] M) below
-    ∙ (stand.each i (get_or (first ∷ sites) i first) (slice_get-get_or (first ∷ sites) i first below)).mark
-    ∙ sym (get_or-map (λ S. project G S M) C i [] (project G [] M) within))

@@ -1,10 +1,6 @@
-//! The sessions of a case, run one after the other on sites that decide from their own marks.
+//! The sites of a case in a list, without locks: they decide from their own marks.
 #![tactic(auto)]
 
-mod run;
-mod session;
 mod sites;
 
-pub use run::run_case;
-pub use session::run_sessions;
 pub use sites::Sites;

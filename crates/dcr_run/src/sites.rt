@@ -1,4 +1,4 @@
-ghost use Rattle.std.specs.Prelude.{◌≡◌, ◌<◌, List, length, map, IfOk};
+ghost use Rattle.std.specs.Prelude.{◌≡◌, ◌<◌, List, length, IfOk};
 ghost use Rattle.std.specs.List.{All};
 ghost use Rattle.dcr_set.specs.Least.{least};
 ghost use Rattle.dcr_set.specs.EventSet.{Set};
@@ -11,15 +11,15 @@ ghost use Rattle.dcr_run.specs.SitesModel.{alphabets_in};
 ghost use Rattle.dcr_site.specs.Together.{AllStand, AreOver, waits_in};
 ghost use Rattle.dcr_run.specs.Engine.{AreOverMore, HeardEach};
 
-use dcr_graph::{Graph, Marking, SiteMark};
-use dcr_journal::{Call, MarkList, Outcome};
+use dcr_graph::{Graph, Marking};
+use dcr_journal::{Call, Outcome};
 use dcr_proj::{Cover, Network, project};
 use dcr_set::{EventId, EventSet, NoMemory, SiteId};
 use dcr_site::Site;
 use std::alloc::Global;
 use std::marker::Model;
 
-/// The sites of a run, in order. Contracts see them as `Engine`; what they say of a graph holds where the
+/// The sites of a case, in order. Contracts see them as `Engine`; what they say of a graph holds where the
 /// sites stand together at a marking of that graph (`AllStand`).
 #[derive(Drop)]
 pub struct Sites {
@@ -50,7 +50,7 @@ impl Sites {
     ghost use Rattle.dcr_graph.specs.Projection.{HasRoom};
     ghost use Rattle.dcr_graph.specs.declared.marking.Marking.{Marking as Marks};
     ghost use Rattle.dcr_journal.specs.Answer.{answer};
-    ghost use Rattle.dcr_journal.specs.Run.{IsInRange, stepped_by, marks_at};
+    ghost use Rattle.dcr_journal.specs.Run.{IsInRange, stepped_by};
     ghost use Rattle.dcr_proj.specs.CoverValue.{IsCovered, atoms_of};
     ghost use Rattle.dcr_run.specs.SitesModel.{alphabets_in};
     ghost use Rattle.dcr_site.specs.Together.{AllStand, AreOver};
@@ -181,16 +181,8 @@ impl Sites {
         hear_each(&mut self.members, participants, e);
     }
 
-    /// The marks of each site.
-    pub fn marks(&self, alloc: Global) -> Result<MarkList, NoMemory>
-        ensures { (G : Rules) (C : List Set) (M : Marks) → AllStand G C M self.now.sites → IfOk result (λ marks. marks ≡ marks_at G C M) }
-    {
-        let marks = marks_of_each(alloc, &self.members)?;
-        Ok(MarkList::new(marks))
-    }
-
-    /// The least atom that is included and pending, of the atoms that a site owns.
-    pub fn first_waiting(&self) -> Option<EventId>
+    // The least atom that is included and pending, of the atoms that a site owns.
+    fn first_waiting(&self) -> Option<EventId>
         ensures { (G : Rules) (C : List Set) (M : Marks) → IsCovered G.atoms C → AllStand G C M self.now.sites → result ≡ waits G.atoms M }
     {
         first_of_each(&self.members)
@@ -238,17 +230,6 @@ fn hear_each(members: &mut [Site], participants: &[SiteId], e: EventId)
         let member = &mut members[usize::from(participant.0)];
         member.apply(e);
     }
-}
-
-// The marks of each site.
-fn marks_of_each(alloc: Global, members: &[Site]) -> Result<Vec<SiteMark>, NoMemory>
-    ensures { IfOk result (λ marks. marks.items ≡ map (λ site. site.mark) members.now) }
-{
-    let mut marks = Vec::with_capacity(alloc, members.len())?;
-    for member in members {
-        marks.push(member.mark())?;
-    }
-    Ok(marks)
 }
 
 // The least atom for which a site waits.
