@@ -88,7 +88,7 @@ module _ {D : Type 0} (view : D → DiskView) (faults : D → ℕ) (law : CasesA
       not_refused it {cause} refuses some (inr stands) = gone_on_from one none it.case (view before).content cause it.old refuses stands it.few it.possible
 
   -- a tape that is refused
-  tape_refused : (bytes : List ℕ) (case : Spelled) → case_in bytes ≡ Ok case → IsTapeRefused (view before) (Some bytes) had took status
+  tape_refused : (bytes : List ℕ) (case : Spelled) → case_in bytes ≡ Ok case → IsTapeRefused (view before) (view end) (Some bytes) had took status
       → IsAnsweredCase true (view before) (Ok case) status
   tape_refused bytes case is it = λ told.
       let due = due_or TapeRefused (tape_line it.cause) status had took writes it.line in
@@ -102,7 +102,7 @@ module _ {D : Type 0} (view : D → DiskView) (faults : D → ℕ) (law : CasesA
       }
 
   -- no run is told
-  told_none : (store : Bool) (bytes : List ℕ) (result : Result Spelled CaseStop) → case_in bytes ≡ result → TellsNone store (view before) (Some bytes) had took status
+  told_none : (store : Bool) (bytes : List ℕ) (result : Result Spelled CaseStop) → case_in bytes ≡ result → TellsNone store (view before) (view end) (Some bytes) had took status
       → IsAnsweredCase store (view before) result status
   told_none store bytes result is (is_silent silent) = elim silent.0 [
     | inl e ↦ absurd (reads e)

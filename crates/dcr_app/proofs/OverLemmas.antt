@@ -52,14 +52,6 @@ fault_told J due text status had took (all_done none is) wrote fault =
     let same : DiskFault ≡ due = (wrote_at due text status DiskFault had took fault tt wrote).0 in absurd (let wrong = same ∙ is in cc)
 fault_told J due text status had took (some_failed some is) wrote fault = some
 
--- a report never ends with the status of a refused tape
-pub no_report_refused : (J : List Entry) (due : Status) (text : List ℕ) (status : Status) (had took : Option (List ℕ)) → IsDueFor J due → Wrote due text status had took
-    → status ≡ TapeRefused → ⊥
-no_report_refused J due text status had took (all_done none is) wrote refused =
-    let same : TapeRefused ≡ due = (wrote_at due text status TapeRefused had took refused tt wrote).0 in let wrong = same ∙ is in cc
-no_report_refused J due text status had took (some_failed some is) wrote refused =
-    let same : TapeRefused ≡ due = (wrote_at due text status TapeRefused had took refused tt wrote).0 in let wrong = same ∙ is in cc
-
 -- a line of a refused tape is never told as a failed disk
 never_failed : (why : TapeCause) (status : Status) (had took : Option (List ℕ)) → status ≡ DiskFault
     → IsSilent status had took ⊎ Wrote TapeRefused (tape_line why) status had took → ⊥
@@ -143,12 +135,12 @@ module _ {D : Type 0} (view : D → DiskView) (faults : D → ℕ) (workers : �
       let there : slice_get [] at ≡ Some bad.execution = subst (λ (l : List TapeEntry). slice_get l at ≡ Some bad.execution) none bad.there in cc
 
   -- no call was made
-  on_refused : (bytes : List ℕ) → case_in bytes ≡ Ok case → (why : OpenCause) → IsCause (cluster_in case old) why → EndsFor (tape_cause why) status had took
-      → TellsNone true (view before) (Some bytes) had took status
-  on_refused bytes spelled opening.NoMemory stands ends = is_silent ends
-  on_refused bytes spelled opening.DiskFault stands ends = has_failed refl ends.0 ends.1
-  on_refused bytes spelled (opening.BadTape at) stands (inl silent) = is_silent silent
-  on_refused bytes spelled (opening.BadTape at) stands (inr wrote) =
+  on_refused : (bytes : List ℕ) → case_in bytes ≡ Ok case → (why : OpenCause) (last : Store D) → end ≡ disk_in last → IsCause (cluster_in case old) why
+      → Leaves view faults old why (On tape) last → EndsFor (tape_cause why) status had took → TellsNone true (view before) (view end) (Some bytes) had took status
+  on_refused bytes spelled opening.NoMemory last same stands leaves ends = is_silent ends
+  on_refused bytes spelled opening.DiskFault last same stands leaves ends = has_failed refl ends.0 ends.1
+  on_refused bytes spelled (opening.BadTape at) last same stands leaves (inl silent) = is_silent silent
+  on_refused bytes spelled (opening.BadTape at) last same stands leaves (inr wrote) =
       let some = some_there at stands in
       is_tape_refused refl (record {
         bytes = bytes;
@@ -157,11 +149,17 @@ module _ {D : Type 0} (view : D → DiskView) (faults : D → ℕ) (workers : �
         spelled = spelled;
         content = opened.before;
         was = opened.was;
+        stays = left_as_opened last same leaves some;
         some = some;
         cause = cause.BadTape at;
         stands = by_execution at refl old (stood view faults one before tape digest old long opened some) opened.few stands;
         line = wrote;
       })
+    where
+      left_as_opened : (last : Store D) → end ≡ disk_in last → last ≡ On tape → opened.before ≢ [] → IsTrue (view end).told × ((view end).content ≡ opened.before)
+      left_as_opened last same leaves some =
+          let is : end ≡ tape.disk = same ∙ ap disk_in leaves in
+          subst (λ d. IsTrue (view d).told × ((view d).content ≡ opened.before)) (sym is) (opened.told, opened.kept some)
 
   pub on_answers : CasesAreTheFormats → (bytes : List ℕ) → case_in bytes ≡ Ok case → (told_run : Option Closed)
       → EndsOver view faults workers case old (On tape) end had took status told_run
@@ -169,7 +167,7 @@ module _ {D : Type 0} (view : D → DiskView) (faults : D → ℕ) (workers : �
   on_answers law bytes spelled (Some closed) it =
       tells_run view faults law workers true before end bytes case old (On tape) had took status closed spelled opened.few
       (stood_for view faults one before tape digest old long opened) it (kept_by closed it) (λ e. absurd cc)
-  on_answers law bytes spelled None it = on_refused bytes spelled it.cause it.refused.stands it.ends
+  on_answers law bytes spelled None it = on_refused bytes spelled it.cause it.last it.same it.refused.stands it.refused.leaves it.ends
 
   still_for : (why : OpenCause) (last : Store D) → Leaves view faults old why (On tape) last → StandsStill view before (disk_in last)
   still_for opening.NoMemory (On now) leaves = still_then view faults one before tape digest old long opened now.disk leaves.0
@@ -211,27 +209,13 @@ module _ {D : Type 0} (view : D → DiskView) (faults : D → ℕ) (workers : �
   on_no_fewer (Some closed) it = no_fewer_ran closed.history.entries (either_way closed.history.entries it.report.0 it.report.1) (kept_by closed it)
   on_no_fewer None it = subst (λ d. faults before ≤ faults d) (sym it.same) (no_fewer_open it.cause it.last it.refused.leaves)
 
-  -- a tape that is refused has the content that it had
-  same_tape : (why : OpenCause) (last : Store D) → IsCause (cluster_in case old) why → Leaves view faults old why (On tape) last → EndsFor (tape_cause why) status had took
-      → status ≡ TapeRefused → IsTrue (view before).told → (view (disk_in last)).content ≡ (view before).content
-  same_tape opening.NoMemory last stands leaves ends is told = absurd (not_silent status TapeRefused had took is (λ e. cc) (λ e. cc) ends)
-  same_tape opening.DiskFault last stands leaves ends is told = absurd (let wrong = sym is ∙ ends.0 in cc)
-  same_tape (opening.BadTape at) last stands leaves ends is told =
-      ap (λ s. (view (disk_in s)).content) leaves ∙ opened.kept (some_there at stands) ∙ sym (opened.was told)
-
-  pub on_kept : (told_run : Option Closed) → EndsOver view faults workers case old (On tape) end had took status told_run → status ≡ TapeRefused → IsTrue (view before).told
-      → (view end).content ≡ (view before).content
-  on_kept (Some closed) it is told =
-      absurd (no_report_refused closed.history.entries it.report.0 (report_text case.nested case.cover closed.opening closed.history.entries) status had took it.report.1 it.report.2 is)
-  on_kept None it is told = ap (λ d. (view d).content) it.same ∙ same_tape it.cause it.last it.refused.stands it.refused.leaves it.ends is told
-
 -- ---- a disk that was not opened as a tape
 
 module _ {D : Type 0} (view : D → DiskView) (faults : D → ℕ) (workers : ℕ) (case : Spelled) (before end : D) (why : TapeCause)
     (refused : NotOpened (view before) (view end) (digest_of case) why) (counts : CountsFaultOf why (faults before) (faults end)) (had took : Option (List ℕ)) (status : Status)
     (ends : EndsFor why status had took) where
   shown_line : (bytes : List ℕ) → case_in bytes ≡ Ok case → (cause : TapeCause) → cause ≡ why → IsShown cause
-      → IsSilent status had took ⊎ Wrote TapeRefused (tape_line cause) status had took → TellsNone true (view before) (Some bytes) had took status
+      → IsSilent status had took ⊎ Wrote TapeRefused (tape_line cause) status had took → TellsNone true (view before) (view end) (Some bytes) had took status
   shown_line bytes spelled cause same shown (inl silent) = is_silent silent
   shown_line bytes spelled cause same shown (inr wrote) =
       let shown_why = subst IsShown same shown in
@@ -242,6 +226,7 @@ module _ {D : Type 0} (view : D → DiskView) (faults : D → ℕ) (workers : �
         spelled = spelled;
         content = refused.before;
         was = refused.was;
+        stays = ((refused.shown shown_why).0, (refused.shown shown_why).2);
         some = (refused.shown shown_why).1;
         cause = why;
         stands = by_bytes shown_why refused.stands;
@@ -249,7 +234,7 @@ module _ {D : Type 0} (view : D → DiskView) (faults : D → ℕ) (workers : �
       })
 
   tells_none : (bytes : List ℕ) → case_in bytes ≡ Ok case → (cause : TapeCause) → cause ≡ why → EndsFor cause status had took
-      → TellsNone true (view before) (Some bytes) had took status
+      → TellsNone true (view before) (view end) (Some bytes) had took status
   tells_none bytes spelled cause.DiskFault same ends' = has_failed refl ends'.0 ends'.1
   tells_none bytes spelled cause.NoMemory same ends' = is_silent ends'
   tells_none bytes spelled cause.NotTape same ends' = shown_line bytes spelled cause.NotTape same tt ends'
@@ -278,6 +263,3 @@ module _ {D : Type 0} (view : D → DiskView) (faults : D → ℕ) (workers : �
 
   pub unopened_no_fewer : faults before ≤ faults end
   unopened_no_fewer = no_fewer_for why counts
-
-  pub unopened_kept : (status ≡ TapeRefused → IsShown why) → status ≡ TapeRefused → IsTrue (view before).told → (view end).content ≡ (view before).content
-  unopened_kept shown is told = (refused.shown (shown is)).2 ∙ sym (refused.was told)

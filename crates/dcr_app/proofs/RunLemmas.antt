@@ -140,6 +140,7 @@ module _ {D : Type 0} (view : D → DiskView) (faults : D → ℕ) (workers : �
     spelled = ap case_in it.read ∙ it.spelled;
     content = it.content;
     was = it.was;
+    stays = it.stays;
     some = it.some;
     cause = it.cause;
     stands = it.stands;

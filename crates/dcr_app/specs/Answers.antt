@@ -57,14 +57,15 @@ pub record IsRefused (left had took : Option (List ℕ)) (status : Status) : Typ
   pub line : Wrote Refused (refusal_line why) status had took
 
 -- The bytes that were read are a case, and the disk, which wasn't empty, is refused as its tape: the line of a cause that
--- stands in its content was due.
-pub record IsTapeRefused (disk : DiskView) (left had took : Option (List ℕ)) (status : Status) : Type 0 where
+-- stands in its content was due. The disk tells that content and still has it.
+pub record IsTapeRefused (before after : DiskView) (left had took : Option (List ℕ)) (status : Status) : Type 0 where
   pub bytes : List ℕ
   pub read : WereLeft left bytes
   pub case : Spelled
   pub spelled : case_in bytes ≡ Ok case
   pub content : List ℕ
-  pub was : IsTrue disk.told → disk.content ≡ content
+  pub was : IsTrue before.told → before.content ≡ content
+  pub stays : IsTrue after.told × (after.content ≡ content)
   pub some : content ≢ []
   pub cause : TapeCause
   pub stands : RefusesTape case content cause
@@ -72,18 +73,18 @@ pub record IsTapeRefused (disk : DiskView) (left had took : Option (List ℕ)) (
 
 -- Why no run is told: the input failed or memory ran out; the bytes are refused; or, with a store, the disk failed before
 -- any call was made, or it is refused as the tape of the case. Of the first and the third nothing was written.
-pub data TellsNone (store : Bool) (disk : DiskView) (left had took : Option (List ℕ)) (status : Status) : Type 0 where
-  is_silent : IsSilent status had took → TellsNone store disk left had took status
-  is_refused : IsRefused left had took status → TellsNone store disk left had took status
-  has_failed : store ≡ true → status ≡ DiskFault → Appends had took [] → TellsNone store disk left had took status
-  is_tape_refused : store ≡ true → IsTapeRefused disk left had took status → TellsNone store disk left had took status
+pub data TellsNone (store : Bool) (before after : DiskView) (left had took : Option (List ℕ)) (status : Status) : Type 0 where
+  is_silent : IsSilent status had took → TellsNone store before after left had took status
+  is_refused : IsRefused left had took status → TellsNone store before after left had took status
+  has_failed : store ≡ true → status ≡ DiskFault → Appends had took [] → TellsNone store before after left had took status
+  is_tape_refused : store ≡ true → IsTapeRefused before after left had took status → TellsNone store before after left had took status
 
 -- A run that is told is the headline's. Where none is, nothing was written, or the bytes or the tape are refused.
 abbrev pub AnswersCase : {D : Type 0} → (D → DiskView) → (D → ℕ) → ℕ → Bool → D → D → Option (List ℕ) → Type 0 → Option (List ℕ) → Option (List ℕ) → Status
     → Option Closed → Type 0
 AnswersCase view faults workers store before after left has_ended had took status (Some closed) =
     TellsRun view faults workers store before after left has_ended had took status closed
-AnswersCase view faults workers store before after left has_ended had took status None = TellsNone store (view before) left had took status
+AnswersCase view faults workers store before after left has_ended had took status None = TellsNone store (view before) (view after) left had took status
 
 -- The run of a single worker in which nothing failed is the told one: the sessions one after the other. And a case of a
 -- single session that spells a run of the graph from where it begins, each event at a site that owns it, is answered by

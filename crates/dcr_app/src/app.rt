@@ -1,4 +1,4 @@
-ghost use Rattle.std.specs.Prelude.{◌≡◌, ◌≢◌, ◌⊎◌, ◌≤◌, Bool, ℕ, IsTrue, Some, None, IfSome};
+ghost use Rattle.std.specs.Prelude.{◌≡◌, ◌≢◌, ◌⊎◌, ◌≤◌, Bool, ℕ, Some, None, IfSome};
 ghost use Rattle.std.specs.Io.KnownBytes.{IsAtEnd};
 ghost use Rattle.dcr_base.specs.Count.{Rose};
 ghost use Rattle.dcr_json.specs.Case.{case_in};
@@ -76,7 +76,7 @@ pub fn dcr<I: Source, O: Sink, D: Disk + Send, G: Gate + Drop + Sync, R: Threads
 
     ensures unstored { ¬ IsStored (command_in words.now) → result.disk ≡ disk }
     ensures still { result.closed ≡ None → StandsStill D.view disk result.disk }
-    ensures kept { result.status ≡ Status.TapeRefused → IsTrue (D.view disk).told → (D.view result.disk).content ≡ (D.view disk).content }
+    ensures uncalled { (result.status ≡ Status.Refused) ⊎ (result.status ≡ Status.ReadFault) → result.disk ≡ disk }
 
     ensures usage { command_in words.now ≡ None → (result.status ≡ Status.Usage) ⊎ (result.status ≡ Status.WriteFault) }
     ensures usage_only { result.status ≡ Status.Usage → command_in words.now ≡ None }
@@ -84,7 +84,7 @@ pub fn dcr<I: Source, O: Sink, D: Disk + Send, G: Gate + Drop + Sync, R: Threads
     ensures refused { result.status ≡ Status.Refused
         → Refuses (command_in words.now) (I.left input.old) (O.taken output.old) (O.taken output.new) }
     ensures tape_refused { result.status ≡ Status.TapeRefused → IsStored (command_in words.now)
-        × IsTapeRefused (D.view disk) (I.left input.old) (O.taken output.old) (O.taken output.new) Status.TapeRefused }
+        × IsTapeRefused (D.view disk) (D.view result.disk) (I.left input.old) (O.taken output.old) (O.taken output.new) Status.TapeRefused }
 
     ensures report { (workers : ℕ) (store : Bool) → command_in words.now ≡ Some (Run workers store) → result.status ≡ Status.Done
         → WroteReport (O.taken output.old) (O.taken output.new) result.closed }

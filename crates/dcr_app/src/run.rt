@@ -1,5 +1,5 @@
 // The command `run`.
-ghost use Rattle.std.specs.Prelude.{◌≡◌, ◌≢◌, ◌<◌, ◌≤◌, List, ℕ, Some, None, Ok, IsTrue, false, ⊤};
+ghost use Rattle.std.specs.Prelude.{◌≡◌, ◌≢◌, ◌⊎◌, ◌<◌, ◌≤◌, List, ℕ, Some, None, Ok, false, ⊤};
 ghost use Rattle.std.specs.Io.KnownBytes.{IsAtEnd};
 ghost use Rattle.dcr_base.specs.Count.{Rose};
 ghost use Rattle.dcr_json.specs.Built.{case_of, IsCase};
@@ -57,7 +57,7 @@ pub(crate) fn run<
     ensures disks_never_fall { D.faults disk ≤ D.faults result.disk }
     ensures unstored { store ≡ false → result.disk ≡ disk }
     ensures still { result.closed ≡ None → StandsStill D.view disk result.disk }
-    ensures kept { result.status ≡ Status.TapeRefused → IsTrue (D.view disk).told → (D.view result.disk).content ≡ (D.view disk).content }
+    ensures uncalled { (result.status ≡ Status.Refused) ⊎ (result.status ≡ Status.ReadFault) → result.disk ≡ disk }
 {
     match read_all(alloc, input, MAX_BYTES) {
         Ok(bytes) => run_bytes(rt, alloc, workers, store, &bytes, output, disk, gate),
@@ -90,7 +90,7 @@ fn run_bytes<O: Sink, D: Disk + Send, G: Gate + Drop + Sync, R: Threads + Wait +
     ensures disks_never_fall { D.faults disk ≤ D.faults result.disk }
     ensures unstored { store ≡ false → result.disk ≡ disk }
     ensures still { result.closed ≡ None → StandsStill D.view disk result.disk }
-    ensures kept { result.status ≡ Status.TapeRefused → IsTrue (D.view disk).told → (D.view result.disk).content ≡ (D.view disk).content }
+    ensures uncalled { result.status ≡ Status.Refused → result.disk ≡ disk }
 {
     match read_case(alloc, bytes) {
         Ok(case) => run_case_on(rt, alloc, workers, store, &case, output, disk, gate),
@@ -123,7 +123,7 @@ fn run_case_on<O: Sink, D: Disk + Send, G: Gate + Drop + Sync, R: Threads + Wait
     ensures disks_never_fall { D.faults disk ≤ D.faults result.disk }
     ensures unstored { store ≡ false → result.disk ≡ disk }
     ensures still { result.closed ≡ None → StandsStill D.view disk result.disk }
-    ensures kept { result.status ≡ Status.TapeRefused → IsTrue (D.view disk).told → (D.view result.disk).content ≡ (D.view disk).content }
+    ensures accepted { result.status ≢ Status.Refused }
 {
     // What the bytes of a case say, for the headline, and that a disk stands for one list.
     when_each_refusal_comes();

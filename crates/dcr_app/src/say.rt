@@ -87,6 +87,7 @@ pub(crate) fn refuse_tape<O: Sink>(alloc: Global, output: &mut O, cause: TapeCau
     ensures ends { EndsFor cause result.status (O.taken output.old) (O.taken output.new) }
     ensures refused { result.status ≢ Status.Done }
     ensures read { result.status ≢ Status.ReadFault }
+    ensures accepted { result.status ≢ Status.Refused }
     ensures disk { result.status ≡ Status.DiskFault → cause ≡ TapeCause.DiskFault }
     ensures shown { result.status ≡ Status.TapeRefused → IsShown cause }
     ensures counted { result.status ≡ Status.WriteFault → Rose (O.write_faults output.old) (O.write_faults output.new) }

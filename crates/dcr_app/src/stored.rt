@@ -47,6 +47,7 @@ pub(crate) fn run_over<O: Sink, D: Disk + Send, G: Gate + Drop + Sync, R: Thread
         result.status result.closed }
     ensures report { result.status ≡ Status.Done → WroteReport (O.taken output.old) (O.taken output.new) result.closed }
     ensures no_read_fault { result.status ≢ Status.ReadFault }
+    ensures accepted { result.status ≢ Status.Refused }
     ensures counted { result.status ≡ Status.WriteFault → Rose (O.write_faults output.old) (O.write_faults output.new) }
     ensures no_write_fault { result.status ≢ Status.WriteFault → O.write_faults output.new ≡ O.write_faults output.old }
     ensures never_falls { O.write_faults output.old ≤ O.write_faults output.new }
@@ -112,6 +113,7 @@ fn report<O: Sink>(alloc: Global, case: &Case, closed: &Closed, output: &mut O) 
         × Wrote due (report_text case.now.nested case.now.cover closed.now.opening closed.now.history.entries) result
         (O.taken output.old) (O.taken output.new) }
     ensures no_read_fault { result ≢ Status.ReadFault }
+    ensures accepted { result ≢ Status.Refused }
     ensures counted { result ≡ Status.WriteFault → Rose (O.write_faults output.old) (O.write_faults output.new) }
     ensures no_write_fault { result ≢ Status.WriteFault → O.write_faults output.new ≡ O.write_faults output.old }
     ensures never_falls { O.write_faults output.old ≤ O.write_faults output.new }
