@@ -21,6 +21,19 @@ verdict accepting
 end 9
 ";
 
+/// The calls of the hospital's row by session 0, and what each is told.
+pub const HOSPITAL_STEPS: [(usize, &str, &str); 9] = [
+    (0, "exec doctor pm", "0 0 0 exec doctor pm done"),
+    (0, "exec nurse gm", "1 0 1 exec nurse gm condition s"),
+    (0, "exec doctor s", "2 0 2 exec doctor s done"),
+    (0, "exec nurse dt", "3 0 3 exec nurse dt done"),
+    (0, "accepting", "4 0 4 accepting waits s"),
+    (0, "exec nurse gm", "5 0 5 exec nurse gm excluded"),
+    (0, "exec doctor s", "6 0 6 exec doctor s done"),
+    (0, "exec nurse gm", "7 0 7 exec nurse gm done"),
+    (0, "accepting", "8 0 8 accepting yes"),
+];
+
 /// One atom and one site.
 pub const NO_SESSION: &str =
     r#"{"graph":{"events":[{"name":"a"}]},"cover":[{"site":"x","events":["a"]}]}"#;
