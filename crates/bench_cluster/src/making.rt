@@ -37,16 +37,11 @@ pub(crate) fn listed<R: Clock>(rt: &R, alloc: Global, case: &Case) -> io::Result
         return Err(no_memory());
     };
     let (count, atoms) = (case.cover.sites(), case.graph.atoms());
+    let sessions = case.sessions.all();
     let begun = Instant::now(rt)?;
-    for (session, calls) in case.sessions.all().iter().enumerate() {
-        make(
-            &mut sites,
-            session as u32,
-            calls,
-            count,
-            atoms,
-            &mut history,
-        );
+    for number in 0..sessions.len() {
+        let calls = &sessions[number];
+        make(&mut sites, number as u32, calls, count, atoms, &mut history);
     }
     let took = begun.elapsed(rt)?;
     Ok((history.len(), took))
@@ -70,13 +65,16 @@ fn make(
         let Some(call) = calls.get(seq) else {
             return;
         };
+        let Ok(made) = u32::try_from(seq) else {
+            return;
+        };
         if !is_in_range(call, count, atoms) || history.spare() == 0 {
             return;
         }
         let outcome = sites.call(*call);
         history.push(Entry {
             session,
-            seq: seq as u32,
+            seq: made,
             call: *call,
             outcome,
         });
