@@ -1,0 +1,103 @@
+ghost use Rattle.std.specs.Prelude.{◌≡◌, ◌≤◌, ◌+◌, None, IfOk, IsSome, OnOk, OnErr};
+ghost use Rattle.std.specs.Io.Iter.{u64_saturate};
+ghost use Rattle.dcr_base.specs.Door.{GivesNext, IsFresh};
+
+use crate::TcpLink;
+use dcr_base::{Door, Failed};
+use std::io;
+use std::io::ErrorKind;
+use std::net::{Ipv4Addr, Net, SocketAddr, SocketAddrV4, TcpListener, TcpStream};
+
+/// A [`Door`] that gives the connections to a port of 127.0.0.1, as they come. It listens from its first `next` on,
+/// which fails where the port can't be had, and is never shut. It tells no links, and counts failed calls in a `u64`
+/// that stops at its largest value. A call that a signal interrupted is tried again, at most 2^64 - 1 times in a row;
+/// no other failure is. A connection that can't be made to send at once is closed, and the call has failed. No call
+/// takes memory.
+///
+/// This is a trusted edge: which connections come is not proved.
+#[derive(Drop)]
+pub struct TcpDoor<R> {
+    rt: R,
+    port: u16,
+    listener: Option<TcpListener>,
+    faults: u64,
+}
+
+impl<R: Net<Listener = TcpListener, Stream = TcpStream>> TcpDoor<R> {
+    ghost use Rattle.dcr_serve.specs.TcpDoor.{port_of};
+
+    /// A door at this port. It doesn't listen yet.
+    pub fn new(rt: R, port: u16) -> TcpDoor<R>
+        ensures port { port_of result ≡ port }
+        ensures no_faults { ⟦<TcpDoor<R> as Door>⟧.faults result ≡ 0 }
+    {
+        TcpDoor {
+            rt,
+            port,
+            listener: None,
+            faults: 0,
+        }
+    }
+
+    // The next connection, which sends at once. Listens where it doesn't yet.
+    fn accept(&mut self) -> io::Result<TcpStream>
+        ensures port { self.new.port ≡ self.old.port }
+        ensures faults { self.new.faults ≡ self.old.faults }
+    {
+        if self.listener.is_none() {
+            let address = SocketAddr::V4(SocketAddrV4::new(Ipv4Addr::LOCALHOST, self.port));
+            self.listener = Some(self.rt.bind(address)?);
+        }
+        match &self.listener {
+            Some(listener) => {
+                let stream = accept_uninterrupted(listener)?;
+                stream.set_nodelay(true)?;
+                Ok(stream)
+            }
+            None => Err(io::Error::from(ErrorKind::NotFound)),
+        }
+    }
+}
+
+// One connection, tried again where a signal interrupts it.
+fn accept_uninterrupted(listener: &TcpListener) -> io::Result<TcpStream> {
+    for _ in 0..u64::MAX {
+        match listener.accept() {
+            Ok((stream, _)) => return Ok(stream),
+            Err(e) if e.kind() == ErrorKind::Interrupted => {}
+            Err(e) => return Err(e),
+        }
+    }
+    Err(io::Error::from(ErrorKind::Interrupted))
+}
+
+impl<R: Net<Listener = TcpListener, Stream = TcpStream>> Door for TcpDoor<R> {
+    ghost use Rattle.std.specs.Prelude.{None};
+    ghost use Rattle.dcr_serve.specs.TcpDoor.{failed_calls, port_of};
+
+    type Link = TcpLink;
+
+    ghost links = { λ _. None };
+
+    ghost faults = { failed_calls };
+
+    fn next(&mut self) -> Result<Option<TcpLink>, Failed>
+        ensures given { GivesNext None None result }
+        ensures fresh { IsFresh (λ link. link.faults.failed_reads) (λ link. link.faults.failed_writes) result }
+        ensures never_shut { IfOk result IsSome }
+        ensures port { port_of self.new ≡ port_of self.old }
+        ensures never_falls { failed_calls self.old ≤ failed_calls self.new }
+
+        // The count is exact.
+        ensures ok_counts_none { OnOk result (failed_calls self.new ≡ failed_calls self.old) }
+        ensures err_counts_one { OnErr result (failed_calls self.new ≡ u64_saturate (failed_calls self.old + 1)) }
+    {
+        match self.accept() {
+            Ok(stream) => Ok(Some(TcpLink::new(stream))),
+            Err(_) => {
+                self.faults = self.faults.saturating_add(1);
+                Err(Failed)
+            }
+        }
+    }
+}
