@@ -4,6 +4,7 @@ pub mod Disk
 pub mod Door
 pub mod FileDisk
 pub mod ReadStop
+pub mod Side
 pub mod Status
 pub mod StdSink
 pub mod StdSource

@@ -1,4 +1,5 @@
 ghost use Rattle.std.specs.Prelude.{◌≡◌, ℕ, List, Option};
+ghost use Rattle.dcr_base.specs.Side.{side};
 
 use crate::{Sink, Source};
 
@@ -17,7 +18,8 @@ pub trait Spent {
     ghost failed_writes: { Self → ℕ };
 }
 
-/// A connection to somebody who asks and is answered: a source of what is asked, and a sink for the answers.
+/// A connection to somebody who asks and is answered: a source of what is asked, and a sink for the answers. Reading leaves
+/// alone what was taken, and writing what is left.
 pub trait Link: Source + Sink {
     /// What stays of it when it is ended.
     type Rest: Spent + Drop;
@@ -28,4 +30,10 @@ pub trait Link: Source + Sink {
         ensures sent { Self.Rest.sent result ≡ Self.taken self }
         ensures failed_reads { Self.Rest.failed_reads result ≡ Self.read_faults self }
         ensures failed_writes { Self.Rest.failed_writes result ≡ Self.write_faults self };
+
+    /// What reads leave alone is what it has taken.
+    ghost sink_is: { (link : Self) → Self.sink_side link ≡ side (Self.taken link) (Self.write_faults link) };
+
+    /// What writes leave alone is what it has left.
+    ghost source_is: { (link : Self) → Self.source_side link ≡ side (Self.left link) (Self.read_faults link) };
 }

@@ -2,6 +2,7 @@ ghost use Rattle.std.specs.Prelude.{◌≡◌, ◌<◌, ◌≤◌, ℕ, List, Op
 ghost use Rattle.std.specs.Io.{WritesAtMost};
 ghost use Rattle.std.specs.Io.KnownBytes.{WriteAppends};
 ghost use Rattle.dcr_base.specs.Count.{Rose};
+ghost use Rattle.dcr_base.specs.Side.{Side};
 
 use crate::Failed;
 
@@ -13,6 +14,9 @@ pub trait Sink {
     /// How many writes have failed.
     ghost write_faults: { Self → ℕ };
 
+    /// Where the sink is one direction of a link, what the other one tells. No write changes it.
+    ghost source_side: { Self → Side };
+
     /// Takes the first bytes of `bytes`, and answers how many: at least one where there is one.
     /// `Failed` comes when the outside fails; it takes no byte.
     fn write(&mut self, bytes: &[u8]) -> Result<usize, Failed>
@@ -21,5 +25,6 @@ pub trait Sink {
         ensures at_least_one { 0 < length bytes.now → IfOk result (λ n. 1 ≤ n) }
         ensures never_falls { write_faults self.old ≤ write_faults self.new }
         ensures ok_counts_none { OnOk result (write_faults self.new ≡ write_faults self.old) }
-        ensures counted { OnErr result (Rose (write_faults self.old) (write_faults self.new)) };
+        ensures counted { OnErr result (Rose (write_faults self.old) (write_faults self.new)) }
+        ensures apart { source_side self.new ≡ source_side self.old };
 }

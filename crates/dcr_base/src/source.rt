@@ -2,6 +2,7 @@ ghost use Rattle.std.specs.Prelude.{◌≡◌, ◌<◌, ◌≤◌, ℕ, List, []
 ghost use Rattle.std.specs.Io.{ReadsAtMost};
 ghost use Rattle.std.specs.Io.KnownBytes.{ReadConsumes, IsAtEnd};
 ghost use Rattle.dcr_base.specs.Count.{Rose};
+ghost use Rattle.dcr_base.specs.Side.{Side};
 
 use crate::Failed;
 
@@ -19,6 +20,9 @@ pub trait Source {
     /// How many reads have failed.
     ghost read_faults: { Self → ℕ };
 
+    /// Where the source is one direction of a link, what the other one tells. No read changes it.
+    ghost sink_side: { Self → Side };
+
     /// Moves the next bytes into the front of `buf`, and answers how many. For a `buf` with room,
     /// 0 is the end of input, and each later read that doesn't fail answers 0. `Failed` comes when the
     /// outside fails; it takes no byte.
@@ -31,7 +35,8 @@ pub trait Source {
         ensures gives_none { has_ended self.old → IfOk result (λ n. n ≡ 0) }
         ensures never_falls { read_faults self.old ≤ read_faults self.new }
         ensures ok_counts_none { OnOk result (read_faults self.new ≡ read_faults self.old) }
-        ensures counted { OnErr result (Rose (read_faults self.old) (read_faults self.new)) };
+        ensures counted { OnErr result (Rose (read_faults self.old) (read_faults self.new)) }
+        ensures apart { sink_side self.new ≡ sink_side self.old };
 
     /// A source at its end that tells its bytes has none left.
     ghost ended_has_none: { (source : Self) → has_ended source → IsAtEnd (left source) };

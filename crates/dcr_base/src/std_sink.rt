@@ -39,11 +39,14 @@ impl<W: WriteOnce> StdSink<W> {
 }
 
 impl<W: WriteOnce> Sink for StdSink<W> {
+    ghost use Rattle.dcr_base.specs.Side.{no_side};
     ghost use Rattle.dcr_base.specs.StdSink.{writer_of, failed_writes};
 
     ghost taken = { λ sink. W.taken (writer_of sink) };
 
     ghost write_faults = { failed_writes };
+
+    ghost source_side = { λ _. no_side };
 
     fn write(&mut self, bytes: &[u8]) -> Result<usize, Failed>
         ensures within { WritesAtMost result bytes.now }

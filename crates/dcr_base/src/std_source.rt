@@ -46,6 +46,7 @@ impl<R: ReadOnce> StdSource<R> {
 }
 
 impl<R: ReadOnce> Source for StdSource<R> {
+    ghost use Rattle.dcr_base.specs.Side.{no_side};
     ghost use Rattle.dcr_base.specs.StdSource.{reader_of, HasEnded, left_of, left_at_end, failed_reads};
 
     ghost left = { left_of R.left };
@@ -53,6 +54,8 @@ impl<R: ReadOnce> Source for StdSource<R> {
     ghost has_ended = { HasEnded };
 
     ghost read_faults = { failed_reads };
+
+    ghost sink_side = { λ _. no_side };
 
     fn read(&mut self, buf: &mut [u8]) -> Result<usize, Failed>
         ensures within { ReadsAtMost result buf.new }

@@ -26,7 +26,7 @@ impl fmt::Display for WriteFault {
 impl Error for WriteFault {}
 
 /// Writes all the bytes. It takes no memory. `WriteFault` comes exactly where a write failed; the
-/// sink then has the first `written` bytes and no more.
+/// sink then has the first `written` bytes and no more. What is read beside it stays as it was.
 pub fn write_all<O: Sink>(sink: &mut O, bytes: &[u8]) -> Result<(), WriteFault>
     ensures all { OnOk result (Appends (O.taken sink.old) (O.taken sink.new) bytes.now) }
     ensures front { IfErr result (λ fault.
@@ -35,6 +35,7 @@ pub fn write_all<O: Sink>(sink: &mut O, bytes: &[u8]) -> Result<(), WriteFault>
     ensures counted { OnErr result (Rose (O.write_faults sink.old) (O.write_faults sink.new)) }
     ensures ok_counts_none { OnOk result (O.write_faults sink.new ≡ O.write_faults sink.old) }
     ensures never_falls { O.write_faults sink.old ≤ O.write_faults sink.new }
+    ensures apart { O.source_side sink.new ≡ O.source_side sink.old }
 {
     let mut written = 0;
     while written < bytes.len() {

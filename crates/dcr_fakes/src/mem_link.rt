@@ -44,12 +44,15 @@ impl MemLink {
 
 impl Source for MemLink {
     ghost use Rattle.std.specs.Prelude.{◌≡◌, [], Some};
+    ghost use Rattle.dcr_base.specs.Side.{side};
 
     ghost left = { λ link. Some link.source.left };
 
     ghost has_ended = { λ link. link.source.left ≡ [] };
 
     ghost read_faults = { λ link. link.source.calls.faults };
+
+    ghost sink_side = { λ link. side (Some link.sink.taken) link.sink.calls.faults };
 
     /// As its source reads: `Failed` comes exactly at the reads of the source that fail, and any other read gives the next
     /// bytes, as many as the step, the buffer and the bytes left allow. What is answered stays as it was.
@@ -83,10 +86,13 @@ impl Source for MemLink {
 
 impl Sink for MemLink {
     ghost use Rattle.std.specs.Prelude.{Some};
+    ghost use Rattle.dcr_base.specs.Side.{side};
 
     ghost taken = { λ link. Some link.sink.taken };
 
     ghost write_faults = { λ link. link.sink.calls.faults };
+
+    ghost source_side = { λ link. side (Some link.source.left) link.source.calls.faults };
 
     /// As its sink writes: `Failed` comes at the writes of the sink that fail, where there is something to take and no room,
     /// and where memory for the bytes could not be had. What is asked stays as it was.
@@ -135,4 +141,10 @@ impl Link for MemLink {
     {
         self
     }
+
+    ghost use Rattle.std.specs.Prelude.{refl};
+
+    ghost sink_is = { λ link. refl };
+
+    ghost source_is = { λ link. refl };
 }

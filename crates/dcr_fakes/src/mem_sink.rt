@@ -66,10 +66,13 @@ impl MemSink {
 
 impl Sink for MemSink {
     ghost use Rattle.std.specs.Prelude.{Some};
+    ghost use Rattle.dcr_base.specs.Side.{no_side};
 
     ghost taken = { λ sink. Some sink.taken };
 
     ghost write_faults = { λ sink. sink.calls.faults };
+
+    ghost source_side = { λ _. no_side };
 
     /// Takes as much of the bytes as there is room for. `Failed` comes at the writes that fail,
     /// where there is something to take and no room, and where memory for the bytes could not be

@@ -53,12 +53,15 @@ impl MemSource {
 
 impl Source for MemSource {
     ghost use Rattle.std.specs.Prelude.{◌≡◌, [], Some};
+    ghost use Rattle.dcr_base.specs.Side.{no_side};
 
     ghost left = { λ source. Some source.left };
 
     ghost has_ended = { λ source. source.left ≡ [] };
 
     ghost read_faults = { λ source. source.calls.faults };
+
+    ghost sink_side = { λ _. no_side };
 
     /// `Failed` comes exactly at the reads that fail. Any other read gives the next bytes: as many
     /// as the step, the buffer and the bytes left allow.

@@ -58,6 +58,7 @@ impl TcpLink {
 
 impl Source for TcpLink {
     ghost use Rattle.std.specs.Prelude.{IsTrue};
+    ghost use Rattle.dcr_base.specs.Side.{side};
     ghost use Rattle.dcr_serve.specs.TcpLink.{untold};
 
     ghost left = { λ _. untold };
@@ -65,6 +66,8 @@ impl Source for TcpLink {
     ghost has_ended = { λ link. IsTrue link.has_ended };
 
     ghost read_faults = { λ link. link.faults.failed_reads };
+
+    ghost sink_side = { λ link. side untold link.faults.failed_writes };
 
     fn read(&mut self, buf: &mut [u8]) -> Result<usize, Failed>
         ensures within { ReadsAtMost result buf.new }
@@ -103,11 +106,14 @@ impl Source for TcpLink {
 }
 
 impl Sink for TcpLink {
+    ghost use Rattle.dcr_base.specs.Side.{side};
     ghost use Rattle.dcr_serve.specs.TcpLink.{untold};
 
     ghost taken = { λ _. untold };
 
     ghost write_faults = { λ link. link.faults.failed_writes };
+
+    ghost source_side = { λ link. side untold link.faults.failed_reads };
 
     fn write(&mut self, bytes: &[u8]) -> Result<usize, Failed>
         ensures within { WritesAtMost result bytes.now }
@@ -155,6 +161,12 @@ impl Link for TcpLink {
         drop(self);
         rest
     }
+
+    ghost use Rattle.std.specs.Prelude.{refl};
+
+    ghost sink_is = { λ link. refl };
+
+    ghost source_is = { λ link. refl };
 }
 
 impl Drop for TcpLink {

@@ -20,12 +20,15 @@ struct Pieces<'a> {
 
 impl Source for Pieces<'_> {
     ghost use Rattle.std.specs.Prelude.{None, IsTrue};
+    ghost use Rattle.dcr_base.specs.Side.{no_side};
 
     ghost left = { λ _. None };
 
     ghost has_ended = { λ pieces. IsTrue pieces.has_ended };
 
     ghost read_faults = { λ pieces. pieces.faults };
+
+    ghost sink_side = { λ _. no_side };
 
     fn read(&mut self, buf: &mut [u8]) -> Result<usize, Failed> {
         self.calls = self.calls.saturating_add(1);
@@ -57,10 +60,13 @@ struct Small {
 
 impl Sink for Small {
     ghost use Rattle.std.specs.Prelude.{None};
+    ghost use Rattle.dcr_base.specs.Side.{no_side};
 
     ghost taken = { λ _. None };
 
     ghost write_faults = { λ small. small.faults };
+
+    ghost source_side = { λ _. no_side };
 
     fn write(&mut self, bytes: &[u8]) -> Result<usize, Failed> {
         let n = self.step.min(self.room).min(bytes.len());

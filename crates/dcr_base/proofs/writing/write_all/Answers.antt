@@ -12,4 +12,5 @@ loop-written-preserved g c =
       within = search rules;
       taken = Appends-take _ _ _ bytes _ written c.in-Ok.n (take_rest bytes written) before.taken c.in-Ok.ensures.appended;
       no_fault = c.in-Ok.ensures.ok_counts_none ∙ before.no_fault;
+      apart = c.in-Ok.ensures.apart ∙ before.apart;
     }

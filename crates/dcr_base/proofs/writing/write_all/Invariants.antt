@@ -8,6 +8,7 @@ invariant-loop-written g l = record {
   within : l.written ≤ length l.bytes;
   taken : Appends (g.O.Sink.taken l.initial.sink) (g.O.Sink.taken l.sink) (take l.written l.bytes);
   no_fault : g.O.Sink.write_faults l.sink ≡ g.O.Sink.write_faults l.initial.sink;
+  apart : g.O.Sink.source_side l.sink ≡ g.O.Sink.source_side l.initial.sink;
 }
 
 abbrev pub decreases-loop-written : goal.decreases-loop-written
