@@ -1,0 +1,92 @@
+use Rattle.std.proofs.Common.{rules, ◌≤◌, ◌+◌, drop, refl, sym, ap, subst, ◌∙◌, arith}
+use Rattle.dcr_link.specs.TalkModel.{TalkValue}
+use Rattle.dcr_text.specs.declared.cutter.Cut.{Cut}
+use Rattle.dcr_link.specs.Talking.{CutsNext, bytes_spare}
+use Rattle.dcr_link.proofs.PieceLemmas.{answered_as, end_line, end_long, end_many, going_first, going_last, risen, spare_line, spare_more, spare_then, still_line, still_more, whole_piece}
+use Rattle.dcr_link.proofs.talk.Talk.answer_all.Goals as goal
+
+pub loop-used-init : goal.loop-used-init
+loop-used-init g c = record {
+  within = omega arith;
+  sites = refl;
+  atoms = refl;
+  session = refl;
+  no_fewer = omega arith;
+  going = λ before came written going. going_first g.N.ClusterName.cluster g.N.StoreName.first g.N.TurnName.capacity c.args.self.now.sites c.args.self.now.atoms before c.args.pass.now c.args.self.now
+      c.args.piece.now came written (g.L.Sink.taken c.args.link.now) (g.L.Sink.taken c.args.link.now) going;
+  spare = omega arith;
+  apart = refl;
+  no_fault = refl;
+}
+
+pub returns-then-is_full-clause-goes_on : goal.returns-then-is_full-clause-goes_on
+returns-then-is_full-clause-goes_on g c = λ before came written going.
+    end_many g.N.ClusterName.cluster g.N.StoreName.first g.N.TurnName.capacity c.args.self.now.sites c.args.self.now.atoms before c.loop-used.pass c.loop-used.self c.args.piece.now came written _ _
+    c.loop-used.used _ _ _ c.write_all.result (c.loop-used.invariant.going before came written going) (c.if-is_full.ensures.full refl) c.loop-used-test.true refl
+    c.write_all.ensures.all c.write_all.ensures.front (risen c.write_all.result (g.L.Sink.write_faults c.args.link.now) (g.L.Sink.write_faults c.loop-used.link) (g.L.Sink.write_faults c.write_all.new.sink) c.loop-used.invariant.no_fault c.write_all.ensures.counted)
+
+pub loop-used-preserved-in-More : goal.loop-used-preserved-in-More
+loop-used-preserved-in-More g c =
+    let cuts = whole_piece c.args.piece.now c.loop-used.used c.cut-more.result.0 c.cut-more.result.1 c.loop-used.self c.cut-more.new.self c.cut-more.ensures.cuts in
+    let before = c.loop-used.invariant in
+    record {
+      within = let w = c.cut-more.ensures.within in search rules;
+      sites = search rules;
+      atoms = search rules;
+      session = before.session;
+      no_fewer = before.no_fewer;
+      going = λ from came written going. still_more g.N.ClusterName.cluster g.N.StoreName.first g.N.TurnName.capacity c.args.self.now.sites c.args.self.now.atoms from c.loop-used.pass c.loop-used.self
+          c.args.piece.now came written (g.L.Sink.taken c.args.link.now) (g.L.Sink.taken c.loop-used.link) c.loop-used.used c.cut-more.result.0 c.cut-more.result.1 c.cut-more.new.self
+          (before.going from came written going) cuts c.in-More.is;
+      spare = spare_then (bytes_spare c.args.self.now) (bytes_spare c.loop-used.self) (bytes_spare c.cut-more.new.self) c.loop-used.used c.cut-more.result.0 before.spare
+          (spare_more c.loop-used.self c.cut-more.new.self (drop c.loop-used.used c.args.piece.now) c.cut-more.result.0 (subst (λ (k : Cut). CutsNext c.loop-used.self (drop c.loop-used.used c.args.piece.now) c.cut-more.result.0 k c.cut-more.new.self) c.in-More.is cuts));
+      apart = before.apart;
+      no_fault = before.no_fault;
+    }
+
+pub returns-in-Some-clause-goes_on : goal.returns-in-Some-clause-goes_on
+returns-in-Some-clause-goes_on g c = λ from came written going.
+    end_line g.N.ClusterName.cluster g.N.StoreName.first g.N.TurnName.capacity c.args.self.now.sites c.args.self.now.atoms from c.loop-used.pass c.loop-used.self
+    c.args.piece.now came written (g.L.Sink.taken c.args.link.now) (g.L.Sink.taken c.loop-used.link) c.loop-used.used c.cut-more.result.0 c.cut-more.result.1 c.cut-more.new.self
+    (c.loop-used.invariant.going from came written going) (whole_piece c.args.piece.now c.loop-used.used c.cut-more.result.0 c.cut-more.result.1 c.loop-used.self c.cut-more.new.self c.cut-more.ensures.cuts) c.in-Line.is (c.if-is_full.ensures.spare refl) c.answer.new.pass c.answer.new.self (g.L.Sink.taken c.answer.new.link) _ c.answer.result
+    (answered_as g.N.ClusterName.cluster g.N.StoreName.first g.N.TurnName.capacity c.args.self.now.sites c.args.self.now.atoms c.cut-more.new.self.sites c.cut-more.new.self.atoms c.cut-more.new.self.cutter.bytes
+    c.loop-used.pass c.answer.new.pass (g.L.Sink.taken c.loop-used.link) (g.L.Sink.taken c.answer.new.link) (g.L.Sink.write_faults c.args.link.now) (g.L.Sink.write_faults c.loop-used.link) (g.L.Sink.write_faults c.answer.new.link)
+    c.answer.result (ap (λ (t : TalkValue). t.sites) c.cut-more.ensures.cuts.same ∙ c.loop-used.invariant.sites) (ap (λ (t : TalkValue). t.atoms) c.cut-more.ensures.cuts.same ∙ c.loop-used.invariant.atoms)
+    c.loop-used.invariant.no_fault c.answer.ensures.answered) c.in-Some.cause c.in-Some.is
+
+pub loop-used-preserved : goal.loop-used-preserved
+loop-used-preserved g c =
+    let cuts = whole_piece c.args.piece.now c.loop-used.used c.cut-more.result.0 c.cut-more.result.1 c.loop-used.self c.cut-more.new.self c.cut-more.ensures.cuts in
+    let before = c.loop-used.invariant in
+    record {
+      within = let w = c.cut-more.ensures.within in search rules;
+      sites = search rules;
+      atoms = search rules;
+      session = c.answer.ensures.session ∙ before.session;
+      no_fewer = let a = c.answer.ensures.no_fewer in let b = before.no_fewer in omega arith;
+      going = λ from came written going. still_line g.N.ClusterName.cluster g.N.StoreName.first g.N.TurnName.capacity c.args.self.now.sites c.args.self.now.atoms from c.loop-used.pass c.loop-used.self
+          c.args.piece.now came written (g.L.Sink.taken c.args.link.now) (g.L.Sink.taken c.loop-used.link) c.loop-used.used c.cut-more.result.0 c.cut-more.result.1 c.cut-more.new.self
+          (before.going from came written going) cuts c.in-Line.is (c.if-is_full.ensures.spare refl) c.answer.new.pass c.answer.new.self (g.L.Sink.taken c.answer.new.link) _ c.answer.result
+          (answered_as g.N.ClusterName.cluster g.N.StoreName.first g.N.TurnName.capacity c.args.self.now.sites c.args.self.now.atoms c.cut-more.new.self.sites c.cut-more.new.self.atoms c.cut-more.new.self.cutter.bytes
+          c.loop-used.pass c.answer.new.pass (g.L.Sink.taken c.loop-used.link) (g.L.Sink.taken c.answer.new.link) (g.L.Sink.write_faults c.args.link.now) (g.L.Sink.write_faults c.loop-used.link) (g.L.Sink.write_faults c.answer.new.link)
+          c.answer.result (ap (λ (t : TalkValue). t.sites) c.cut-more.ensures.cuts.same ∙ c.loop-used.invariant.sites) (ap (λ (t : TalkValue). t.atoms) c.cut-more.ensures.cuts.same ∙ c.loop-used.invariant.atoms)
+          c.loop-used.invariant.no_fault c.answer.ensures.answered) (ap (λ (t : TalkValue). t.cutter) c.answer.ensures.same) (ap (λ (t : TalkValue). t.lines) c.answer.ensures.same) c.in_default.is;
+      spare = spare_then (bytes_spare c.args.self.now) (bytes_spare c.loop-used.self) (bytes_spare c.answer.new.self) c.loop-used.used c.cut-more.result.0 before.spare
+          (subst (λ (t : TalkValue). bytes_spare t + c.cut-more.result.0 ≤ bytes_spare c.loop-used.self) (sym c.answer.ensures.same)
+          (spare_line c.loop-used.self c.cut-more.new.self (drop c.loop-used.used c.args.piece.now) c.cut-more.result.0 (subst (λ (k : Cut). CutsNext c.loop-used.self (drop c.loop-used.used c.args.piece.now) c.cut-more.result.0 k c.cut-more.new.self) c.in-Line.is cuts) (c.if-is_full.ensures.spare refl)));
+      apart = c.answer.ensures.apart ∙ before.apart;
+      no_fault = c.answer.ensures.no_fault c.in_default.is ∙ before.no_fault;
+    }
+
+pub returns-in-TooLong-clause-goes_on : goal.returns-in-TooLong-clause-goes_on
+returns-in-TooLong-clause-goes_on g c = λ from came written going.
+    end_long g.N.ClusterName.cluster g.N.StoreName.first g.N.TurnName.capacity c.args.self.now.sites c.args.self.now.atoms from c.loop-used.pass c.loop-used.self
+    c.args.piece.now came written (g.L.Sink.taken c.args.link.now) (g.L.Sink.taken c.loop-used.link) c.loop-used.used c.cut-more.result.0 c.cut-more.result.1 c.cut-more.new.self (g.L.Sink.taken c.write_all-in-TooLong.new.sink) _ _
+    c.write_all-in-TooLong.result (c.loop-used.invariant.going from came written going) (whole_piece c.args.piece.now c.loop-used.used c.cut-more.result.0 c.cut-more.result.1 c.loop-used.self c.cut-more.new.self c.cut-more.ensures.cuts) c.in-TooLong.is (c.if-is_full.ensures.spare refl) refl
+    c.write_all-in-TooLong.ensures.all c.write_all-in-TooLong.ensures.front
+    (risen c.write_all-in-TooLong.result (g.L.Sink.write_faults c.args.link.now) (g.L.Sink.write_faults c.loop-used.link) (g.L.Sink.write_faults c.write_all-in-TooLong.new.sink) c.loop-used.invariant.no_fault c.write_all-in-TooLong.ensures.counted)
+
+pub returns-clause-goes_on : goal.returns-clause-goes_on
+returns-clause-goes_on g c = λ from came written going.
+    going_last g.N.ClusterName.cluster g.N.StoreName.first g.N.TurnName.capacity c.args.self.now.sites c.args.self.now.atoms from c.loop-used.pass c.loop-used.self
+    c.args.piece.now came written (g.L.Sink.taken c.args.link.now) (g.L.Sink.taken c.loop-used.link) c.loop-used.used c.loop-used.invariant.within c.loop-used-test.false (c.loop-used.invariant.going from came written going)

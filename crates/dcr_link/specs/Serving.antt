@@ -1,0 +1,71 @@
+-- How a session over a link ends.
+use Rattle.std.specs.Prelude.{◌≡◌, ◌≢◌, ◌⊎◌, ℕ, ◌+◌, ◌<◌, List, [], ◌++◌, length, map, take, Option, Some, ⊤}
+use Rattle.dcr_base.specs.Count.{Rose}
+use Rattle.dcr_text.specs.Cutting.{HasNoEnd}
+use Rattle.dcr_journal.specs.declared.call.Call.{Call}
+use Rattle.dcr_tape.specs.declared.tape.Store.{Store}
+use Rattle.dcr_turn.specs.PassValue.{PassValue}
+use Rattle.dcr_cluster.specs.Calls.{Shows}
+use Rattle.dcr_link.specs.declared.end.WorkCause.{WorkCause}
+use Rattle.dcr_link.specs.declared.end.WorkCause.TheVariants.{Ended, LinkFault, LongLine, ManyLines, Halted, NoMemory}
+use Rattle.dcr_link.specs.declared.end.WorkEnd.{WorkEnd}
+use Rattle.dcr_link.specs.Replies.{asked_in, call_of, calls_in, lines_met, lines_text, made_since, most_bytes, most_lines, replies, whole_lines}
+
+-- after the lines that were met come more bytes than a line may have, without a line end, and more lines might be answered
+pub record HasLongLine (asked : List ℕ) : Type 0 where
+  pub rest : List ℕ
+  pub whole : asked ≡ lines_text (lines_met asked) ++ rest
+  pub long : most_bytes < length rest
+  pub no_end : HasNoEnd (take (most_bytes + 1) rest)
+  pub spare : length (lines_met asked) < most_lines
+
+-- after as many lines as are answered comes a further byte
+pub record HasManyLines (asked : List ℕ) : Type 0 where
+  pub rest : List ℕ
+  pub whole : asked ≡ lines_text (lines_met asked) ++ rest
+  pub further : rest ≢ []
+  pub most : length (lines_met asked) ≡ most_lines
+
+-- A session over a link that had these bytes to ask has ended: by the entries that the pass has made since, as they stand in
+-- what it has seen, and by what was written.
+module _ {D : Type 0} (first : Option (Store D)) (capacity : ℕ) (sites atoms : List (List ℕ)) (asked : List ℕ) (before after : PassValue) (written : List ℕ) where
+  -- the calls among the lines that are met
+  abbrev pub calls_met : List Call
+  calls_met = calls_in (asked_in sites atoms (lines_met asked))
+
+  -- each of them has its entry
+  abbrev pub AllMade : Type 0
+  AllMade = length (made_since before after) ≡ length calls_met
+
+  -- all replies were written
+  abbrev pub AllWritten : WorkCause → Type 0
+  AllWritten cause = written ≡ replies sites atoms asked (made_since before after) cause
+
+  -- What each cause says, where `failed` says that a count of the link rose.
+  abbrev pub EndsBy : Type 0 → WorkCause → Type 0
+  EndsBy failed Ended = (lines_met asked ≡ whole_lines asked) × AllMade × AllWritten Ended
+  EndsBy failed LinkFault = failed
+  EndsBy failed LongLine = HasLongLine asked × AllMade × (AllWritten LongLine ⊎ failed)
+  EndsBy failed ManyLines = HasManyLines asked × AllMade × (AllWritten ManyLines ⊎ failed)
+  EndsBy failed (Halted halt) = (length (made_since before after) < length calls_met) × Shows first capacity after.front halt × (AllWritten (Halted halt) ⊎ failed)
+  EndsBy failed NoMemory = ⊤
+
+  pub record Served (failed : Type 0) (end : WorkEnd) : Type 0 where
+    pub calls : end.calls ≡ length (made_since before after)
+    -- the entries are of the calls that were met, in order, each once
+    pub in_order : map call_of (made_since before after) ≡ take end.calls calls_met
+    -- a beginning of the replies was written
+    pub rest : List ℕ
+    pub replied : written ++ rest ≡ replies sites atoms asked (made_since before after) end.cause
+    pub ends : EndsBy failed end.cause
+
+-- The same over a link that tells its bytes, those left and those taken, at the begin and at the end, and the counts of its
+-- faults.
+abbrev pub Serves : {D : Type 0} → Option (Store D) → ℕ → List (List ℕ) → List (List ℕ) → PassValue → PassValue → Option (List ℕ) → Option (List ℕ) → Option (List ℕ) → Type 0 → WorkEnd → Type 0
+Serves first capacity sites atoms before after left taken now_taken failed end =
+    (asked had : List ℕ) → left ≡ Some asked → taken ≡ Some had
+    → (written : List ℕ) × (now_taken ≡ Some (had ++ written)) × Served first capacity sites atoms asked before after written failed end
+
+-- a count of the link rose
+abbrev pub AnyRose : ℕ → ℕ → ℕ → ℕ → Type 0
+AnyRose reads reads_after writes writes_after = Rose reads reads_after ⊎ Rose writes writes_after
