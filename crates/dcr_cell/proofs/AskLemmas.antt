@@ -29,25 +29,11 @@ use Rattle.dcr_tape.specs.declared.tape.Store.{Store}
 use Rattle.dcr_turn.specs.FrontValue.{FrontValue, HasMissedNone}
 use Rattle.dcr_turn.specs.Pushing.{AllHear}
 use Rattle.dcr_turn.specs.TurnId.{TurnId}
-use Rattle.dcr_cell.specs.Asking.{AreEnough, Found, FoundAt, WillHold, sites_for, sites_of, unasked}
+use Rattle.dcr_cell.specs.Asking.{AreEnough, Found, FoundAt, WillHold, sites_for, sites_of}
 use Rattle.dcr_cell.specs.ClusterId.{ClusterId, IsNamed, IsCall, alphabet_of, marking_after, answer_after}
 use Rattle.dcr_cell.specs.Keeping.{IsToldAs, as_found, as_fault}
 use Rattle.dcr_cell.specs.Laws.{asked, waits_by}
 use Rattle.dcr_cell.proofs.DecisionLemmas.{alphabet_at, answers_hold, waits_hold}
-
-unasked_all : (c : ClusterId) (call : Call) → asked call ≡ None → unasked call ≡ verdict_of (waits_by c [])
-unasked_all c (Exec i e) is = absurd cc
-unasked_all c (Look i) is = absurd cc
-unasked_all c (Enabled i) is = absurd cc
-unasked_all c Accepting is = refl
-
--- where no site was asked
-pub found_none : (c : ClusterId) (call : Call) → Found c call [] (unasked call)
-found_none c call = record {
-  nowhere = λ _. refl;
-  one = λ i is there. absurd (omega (arith, there.1));
-  all = unasked_all c call;
-}
 
 -- ---- who hears
 

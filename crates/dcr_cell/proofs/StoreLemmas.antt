@@ -1,5 +1,5 @@
 -- What a store keeps, as the journal's list grows.
-use Rattle.std.proofs.Common.{◌≡◌, ◌⊎◌, inl, inr, ⊎_elim, IsTrue, ℕ, ◌<◌, ◌≤◌, false, true, List, [], ◌∷◌, ◌++◌, length, Option, Some, None, refl, sym, ap, ◌∙◌, subst, arith}
+use Rattle.std.proofs.Common.{◌≡◌, ◌⊎◌, inl, inr, ⊎_elim, IsTrue, Bool, ℕ, ◌<◌, ◌≤◌, false, true, List, [], ◌∷◌, ◌++◌, length, Option, Some, None, refl, sym, ap, ◌∙◌, subst, arith}
 use Rattle.std.specs.Prelude.{slice_get}
 use Rattle.std.proofs.lemmas.Bool.{cases_lt}
 use Rattle.std.proofs.lemmas.Grind.{flat_map-append}
@@ -23,7 +23,7 @@ use Rattle.dcr_tape.specs.declared.tape.Store.{Store}
 use Rattle.dcr_tape.specs.declared.tape.Store.TheVariants.{Off, On}
 use Rattle.dcr_tape.specs.declared.tape.Tape.{Tape}
 use Rattle.dcr_cell.specs.ClusterId.{ClusterId, IsCall, IsRunOf, IsSoundRunOf, answer_after, begun, marking_after}
-use Rattle.dcr_cell.specs.Keeping.{IsToldAs, StandsBy, as_found, as_fault}
+use Rattle.dcr_cell.specs.Keeping.{IsToldAs, StandsBy, as_found, as_fault, kept_as}
 use Rattle.dcr_cell.specs.Stored.{CanKeep, MayBegin, IsTaped, GoesOn, StandsForSome, StoreStands, TapeStands, execution_of, failed_execution_of, executions, failed_executions, kept_for, tried_for}
 
 -- ---- the executions of a run
@@ -359,3 +359,9 @@ module _ {D : Type 0} (view : D → DiskView) (faults : D → ℕ) (first : Opti
     legal = legal_fault c.rules c.owned (begun c) J sound entry in_range seq (ap (answer_after c J) asked ∙ sym is ∙ done) fault;
     stored = stored;
   }
+
+  -- the same, where it is told as it was kept or failed to be
+  pub stands_as_kept : (new : Store D) (kept : Bool) → found ≡ Done → IsToldAs first Done (kept_as kept) → entry.outcome ≡ kept_as kept → StoreStands view faults first c.old (J ++ entry ∷ []) new
+      → StandsBy view faults c first (J ++ entry ∷ []) new
+  stands_as_kept new kept done told same stored =
+      stands_as_told new done (subst (λ (o : Outcome). IsToldAs first o entry.outcome) (sym done) (subst (λ (o : Outcome). IsToldAs first Done o) (sym same) told)) stored

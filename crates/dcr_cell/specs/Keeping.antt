@@ -1,5 +1,5 @@
 -- What lies beside the journal under its lock.
-use Rattle.std.specs.Prelude.{◌≡◌, ℕ, List, Option}
+use Rattle.std.specs.Prelude.{◌≡◌, ℕ, Bool, true, false, List, Option}
 use Rattle.dcr_base.specs.Disk.{DiskView}
 use Rattle.dcr_journal.specs.declared.call.Outcome.{Outcome}
 use Rattle.dcr_journal.specs.declared.call.Outcome.TheVariants.{Done, Faulted}
@@ -17,3 +17,8 @@ pub record StandsBy {D : Type 0} (view : D → DiskView) (faults : D → ℕ) (c
 pub data IsToldAs {D : Type 0} (first : Option (Store D)) (found told : Outcome) : Type 0 where
   as_found : told ≡ found → IsToldAs first found told
   as_fault : IsTaped first → found ≡ Done → told ≡ Faulted → IsToldAs first found told
+
+-- what an execution that can be done is told, which was kept or failed to be
+abbrev pub kept_as : Bool → Outcome
+kept_as true = Done
+kept_as false = Faulted

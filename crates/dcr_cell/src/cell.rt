@@ -25,8 +25,9 @@ impl<N: ClusterName> Placed for Cell<N> {
 }
 
 impl<N: ClusterName> Cell<N> {
-    ghost use Rattle.std.specs.Prelude.{◌≡◌, ◌≢◌, ◌<◌, ℕ, List, [], ◌∷◌, ◌++◌, length, Some};
+    ghost use Rattle.std.specs.Prelude.{◌≡◌, ◌≢◌, ◌<◌, ℕ, true, false, List, [], ◌∷◌, ◌++◌, length, Some};
     ghost use Rattle.dcr_journal.specs.declared.call.Call.TheVariants.{Exec};
+    ghost use Rattle.dcr_journal.specs.declared.call.Outcome.TheVariants.{Done};
     ghost use Rattle.dcr_turn.specs.FrontValue.{FrontValue};
     ghost use Rattle.dcr_cell.specs.Asking.{Found};
     ghost use Rattle.dcr_cell.specs.CellStands.{CellStands};
@@ -48,6 +49,25 @@ impl<N: ClusterName> Cell<N> {
                 if i == self.front.site() {
                     self.answer(call, found);
                 }
+            }
+        }
+    }
+
+    /// Whether an execution of the event can't be done by this site's own marks: what was found becomes its answer then.
+    /// Else what was found stays.
+    pub fn blocks(&self, e: EventId, found: &mut Outcome) -> bool
+        requires named { IsNamed N.cluster N.turn }
+        requires atom { e < N.cluster.rules.atoms }
+        requires site { self.now.front.site < length N.cluster.owned }
+        requires stands { CellStands N.cluster self.now.front.site self.now.site.value self.now.front }
+        ensures blocked { result ≡ true → (found.new ≢ Done) × (found.new ≡ answer_after N.cluster self.now.front.front (Exec self.now.front.site e)) }
+        ensures free { result ≡ false → (found.new ≡ found.old) × (Done ≡ answer_after N.cluster self.now.front.front (Exec self.now.front.site e)) }
+    {
+        match self.site.decide(e) {
+            Decision::Enabled => false,
+            decision => {
+                decided(decision, found);
+                true
             }
         }
     }

@@ -1,3 +1,6 @@
+ghost use Rattle.std.specs.Prelude.{◌≡◌};
+ghost use Rattle.dcr_journal.specs.declared.call.Outcome.TheVariants.{Faulted};
+
 use crate::StoreName;
 use dcr_base::Disk;
 use dcr_journal::{Call, Outcome};
@@ -22,11 +25,11 @@ impl<D: Disk, N: StoreName<D>> Keeps for Kept<D, N> {
 impl<D: Disk, N: StoreName<D>> Kept<D, N> {
     ghost use Rattle.std.specs.Prelude.{◌≡◌, ◌++◌, ◌∷◌, [], List};
     ghost use Rattle.dcr_journal.specs.declared.call.Call.TheVariants.{Exec};
-    ghost use Rattle.dcr_journal.specs.declared.call.Outcome.TheVariants.{Done, Faulted};
+    ghost use Rattle.dcr_journal.specs.declared.call.Outcome.TheVariants.{Done};
     ghost use Rattle.dcr_journal.specs.declared.call.Entry.{Entry};
     ghost use Rattle.dcr_journal.specs.Run.{HasNoFault, made_by};
     ghost use Rattle.dcr_cell.specs.ClusterId.{IsCall, answer_after};
-    ghost use Rattle.dcr_cell.specs.Keeping.{IsToldAs, StandsBy};
+    ghost use Rattle.dcr_cell.specs.Keeping.{IsToldAs, StandsBy, kept_as};
     ghost use Rattle.dcr_cell.specs.Stored.{CanKeep, StoreStands};
 
     /// Of the store of a run that has no entry yet.
@@ -56,19 +59,21 @@ impl<D: Disk, N: StoreName<D>> Kept<D, N> {
         let Outcome::Done = told else {
             return;
         };
-        *told = self.keep(*site, *event);
+        if !self.keep(*site, *event) {
+            tell_fault(told);
+        }
     }
 
-    // Puts an execution on the tape, where there is one: `Done`, or `Faulted` where the tape failed to keep it.
-    fn keep(&mut self, site: SiteId, event: EventId) -> Outcome
+    // Whether an execution is kept: it is put on the tape, where there is one. Where that fails the tape is stopped.
+    fn keep(&mut self, site: SiteId, event: EventId) -> bool
         requires { CanKeep self.old.store }
-        ensures told { (J : List Entry) → StoreStands D.view D.faults N.first N.cluster.old J self.old.store → IsToldAs N.first Done result }
+        ensures told { (J : List Entry) → StoreStands D.view D.faults N.first N.cluster.old J self.old.store → IsToldAs N.first Done (kept_as result) }
         ensures kept { (J : List Entry) (entry : Entry) → StoreStands D.view D.faults N.first N.cluster.old J self.old.store → HasNoFault J
-            → entry.call ≡ Exec site event → entry.outcome ≡ result
+            → entry.call ≡ Exec site event → entry.outcome ≡ kept_as result
             → StoreStands D.view D.faults N.first N.cluster.old (J ++ entry ∷ []) self.new.store }
     {
         let tape = match &mut self.store {
-            Store::Off(_) => return Outcome::Done,
+            Store::Off(_) => return true,
             Store::On(tape) => tape,
         };
         let entry = TapeEntry {
@@ -76,8 +81,8 @@ impl<D: Disk, N: StoreName<D>> Kept<D, N> {
             site: site.0,
         };
         match tape.append(entry) {
-            Ok(()) => Outcome::Done,
-            Err(DiskFault) => Outcome::Faulted,
+            Ok(()) => true,
+            Err(DiskFault) => false,
         }
     }
 
@@ -88,4 +93,12 @@ impl<D: Disk, N: StoreName<D>> Kept<D, N> {
         let Kept { store, of: _ } = self;
         store
     }
+}
+
+// Tells a fault. It stands by itself, since room for an outcome is cleared where it begins.
+#[inline(never)]
+fn tell_fault(told: &mut Outcome)
+    ensures { told.new ≡ Faulted }
+{
+    *told = Outcome::Faulted;
 }

@@ -1,20 +1,16 @@
--- The fronts that a call lays beside the journal, one after the other.
-use Rattle.std.proofs.Common.{◌≡◌, ℕ, ◌+◌, ◌-◌, ◌<◌, true, List, [], ◌∷◌, ◌++◌, length, map, take, cond, Option, Some, Result, Ok, Err, sym, ap, ◌∙◌, subst, arith, append_assoc, length-append}
-use Rattle.std.specs.Prelude.{slice_get, ◌==◌, MatchResult}
+-- The fronts that a call lays beside the journal.
+use Rattle.std.proofs.Common.{◌≡◌, ℕ, List, [], ◌∷◌, ◌++◌, map, Option, Result, Ok, Err, refl, sym, ap, ◌∙◌, subst, append-nil, append_assoc}
+use Rattle.std.specs.Prelude.{MatchResult}
 use Rattle.std.specs.List.{All}
-use Rattle.std.proofs.Math.Seq.{take-length}
-use Rattle.std.proofs.lemmas.Bool.Decides.{nat_tests}
-use Rattle.std.proofs.lemmas.List.{map-append, take_more}
-use Rattle.std.proofs.lemmas.List.Elements.{All-push}
-use Rattle.std.proofs.lemmas.Option.{slice_get_within, get_or_from_slice_get}
+use Rattle.std.proofs.lemmas.List.{map-append}
 use Rattle.dcr_base.specs.Disk.{DiskView}
 use Rattle.dcr_journal.specs.declared.call.Call.{Call}
+use Rattle.dcr_journal.specs.declared.call.Entry.{Entry}
 use Rattle.dcr_journal.specs.declared.call.Outcome.{Outcome}
 use Rattle.dcr_tape.specs.declared.tape.Store.{Store}
-use Rattle.dcr_turn.specs.FrontValue.{FrontValue, HasMissedNone}
+use Rattle.dcr_turn.specs.FrontValue.{FrontValue, HasMissedNone, fronts_at}
 use Rattle.dcr_turn.specs.GuardValue.{GuardValue, with_enlisted}
 use Rattle.dcr_turn.specs.PassValue.{PassValue}
-use Rattle.dcr_turn.specs.Pushing.{AllHear, without_first}
 use Rattle.dcr_turn.specs.TurnId.{TurnId}
 use Rattle.dcr_cell.specs.Asking.{sites_of}
 use Rattle.dcr_cell.specs.ClusterId.{ClusterId}
@@ -22,19 +18,6 @@ use Rattle.dcr_cell.specs.declared.kept.Kept.{Kept}
 use Rattle.dcr_cluster.specs.Calls.{seeing}
 use Rattle.dcr_cluster.specs.Entering.{Entered, MayEnter, Pushed, PushedAs, PushedNone}
 use Rattle.dcr_cluster.specs.declared.halt.Halt.{Halt}
-
--- ---- the row without its last front
-
-pub with_last : {X : Type 0} (row rest : List X) (last : X) → Some last ≡ slice_get row (length row - 1) → rest ≡ take (length row - 1) row → row ≡ rest ++ last ∷ []
-with_last row rest last is_last is_rest =
-    let below : length row - 1 < length row = slice_get_within row (length row - 1) last (sym is_last) in
-    let all : length row - 1 + 1 ≡ length row = omega arith in
-    sym (take-length row) ∙ ap (λ n. take n row) (sym all) ∙ take_more row (length row - 1) last below
-    ∙ ap (λ x. take (length row - 1) row ++ x ∷ []) (get_or_from_slice_get row (length row - 1) last last (sym is_last))
-    ∙ ap (λ l. l ++ last ∷ []) (sym is_rest)
-
-pub one_fewer : {X : Type 0} (row rest : List X) (last : X) → row ≡ rest ++ last ∷ [] → length row ≡ length rest + 1
-one_fewer row rest last is = ap length is ∙ length-append rest (last ∷ [])
 
 -- the sites stay the same when the last front is laid beside the journal
 pub same_sites : (row rest : List FrontValue) (last : FrontValue) (enlisted : List ℕ) → row ≡ rest ++ last ∷ []
@@ -44,13 +27,12 @@ same_sites row rest last enlisted is =
     ∙ ap (λ l. l ++ enlisted) (map-append (λ (f : FrontValue). f.site) rest (last ∷ []))
     ∙ append_assoc (sites_of rest) (last.site ∷ []) enlisted
 
--- ---- what was done is seen from before the front was laid down
+-- ---- what was done is seen from before the fronts were laid down
 
-itself : (i : ℕ) → (i == i) ≡ true
-itself i = grind (arith, nat_tests)
-
-first_out : (i : ℕ) (js : List ℕ) → without_first i (i ∷ js) ≡ js
-first_out i js = ap (λ b. cond b js (i ∷ without_first i js)) (itself i)
+-- the fronts of these sites are the old ones, which have seen more
+seen_by_all : (J : List Entry) (fronts : List FrontValue) → fronts_at J (sites_of fronts) ≡ map (seeing J) fronts
+seen_by_all J [] = refl
+seen_by_all J (f ∷ fronts) = ap (λ (l : List FrontValue). seeing J f ∷ l) (seen_by_all J fronts)
 
 module _ {D N : Type 0} (view : D → DiskView) (faults : D → ℕ) (c : ClusterId) (first : Option (Store D)) (capacity : ℕ) where
   ends_alike : (guard after : GuardValue (Kept D N)) (E F : List ℕ) (before then : PassValue) (call : Call) (found : Outcome) (result : Result Outcome Halt)
@@ -73,59 +55,42 @@ module _ {D N : Type 0} (view : D → DiskView) (faults : D → ℕ) (c : Cluste
     stands = p.stands;
   }
 
-  pushed_alike : (guard inside after last : GuardValue (Kept D N)) (i : ℕ) (before then : PassValue) (call : Call) (found : Outcome) (result : Result Outcome Halt)
-      → inside ≡ with_enlisted guard (i ∷ guard.enlisted) → last ≡ with_enlisted after (without_first i after.enlisted)
-      → Pushed view faults c first capacity inside after before then call found result → Pushed view faults c first capacity guard last before then call found result
-  pushed_alike guard inside after last i before then call found result is_inside is_last p =
-      let q : Pushed view faults c first capacity (with_enlisted guard (i ∷ guard.enlisted)) after before then call found result =
-      subst (λ (g : GuardValue (Kept D N)). Pushed view faults c first capacity g after before then call found result) is_inside p in
-      subst (λ (g : GuardValue (Kept D N)). Pushed view faults c first capacity guard g before then call found result) (sym is_last) record {
-        enlisted = ap (without_first i) q.enlisted ∙ first_out i guard.enlisted;
-        front = q.front;
-        call_ends = ends_alike guard after (i ∷ guard.enlisted) (without_first i after.enlisted) before then call found result q.call_ends;
-      }
-
-  -- with the last front beside the journal the call may enter too
-  pub ready_below : (turn : TurnId) (guard inside : GuardValue (Kept D N)) (pass : PassValue) (call : Call) (found : Outcome) (row rest : List FrontValue) (front : FrontValue)
-      → row ≡ rest ++ front ∷ [] → inside ≡ with_enlisted guard (front.site ∷ guard.enlisted)
-      → MayEnter view faults c first capacity turn guard pass call found (sites_of row ++ guard.enlisted)
-      → MayEnter view faults c first capacity turn inside pass call found (sites_of rest ++ inside.enlisted)
-  ready_below turn guard inside pass call found row rest front is_row is_inside ready =
-      subst (λ (g : GuardValue (Kept D N)). MayEnter view faults c first capacity turn g pass call found (sites_of rest ++ g.enlisted)) (sym is_inside) record {
+  -- with the fronts beside the journal the entry may be made
+  pub ready_below : (turn : TurnId) (guard inside : GuardValue (Kept D N)) (pass : PassValue) (call : Call) (found : Outcome) (fronts : List FrontValue)
+      → inside ≡ with_enlisted guard (sites_of fronts ++ guard.enlisted)
+      → MayEnter view faults c first capacity turn guard pass call found (sites_of fronts ++ guard.enlisted)
+      → MayEnter view faults c first capacity turn inside pass call found inside.enlisted
+  ready_below turn guard inside pass call found fronts is_inside ready =
+      subst (λ (g : GuardValue (Kept D N)). MayEnter view faults c first capacity turn g pass call found g.enlisted) (sym is_inside) record {
         named = ready.named;
         most_entries = ready.most_entries;
         in_range = ready.in_range;
         met = ready.met;
         made = ready.made;
         stands = ready.stands;
-        hear = subst (λ (sites : List ℕ). AllHear turn.alphabets sites call found) (same_sites row rest front guard.enlisted is_row) ready.hear;
+        hear = ready.hear;
       }
 
-  -- the last front goes down and comes back
-  pub entered_one : (turn : TurnId) (guard inside after last : GuardValue (Kept D N)) (before then : PassValue) (call : Call) (found : Outcome) (result : Result Outcome Halt)
-      (row rest rest_after row_after : List FrontValue) (front back : FrontValue) (i : ℕ)
-      → row ≡ rest ++ front ∷ [] → i ≡ front.site
-      → inside ≡ with_enlisted guard (front.site ∷ guard.enlisted) → HasMissedNone turn front guard.entries
-      → Entered view faults c first capacity turn inside after before then rest rest_after call found result
-      → last ≡ with_enlisted after (without_first i after.enlisted) → back.site ≡ i → back.front ≡ after.entries
-      → row_after ≡ rest_after ++ back ∷ []
-      → Entered view faults c first capacity turn guard last before then row row_after call found result
-  entered_one turn guard inside after last before then call found result row rest rest_after row_after front back i is_row is_site is_inside none entered is_last back_site back_front is_back =
-      let same_list : inside.entries ≡ guard.entries = ap (λ (g : GuardValue (Kept D N)). g.entries) is_inside in
-      let then_list : last.entries ≡ after.entries = ap (λ (g : GuardValue (Kept D N)). g.entries) is_last in
-      let back_is : back ≡ seeing after.entries front = ap (λ s. record { site = s; front = back.front }) (back_site ∙ is_site) ∙ ap (λ l. record { site = front.site; front = l }) back_front in
-      record {
-        pushed = pushed_alike guard inside after last front.site before then call found result is_inside
-            (is_last ∙ ap (λ k. with_enlisted after (without_first k after.enlisted)) is_site) entered.pushed;
-        returned = record {
-          missed_none = subst (All (λ f. HasMissedNone turn f guard.entries)) (sym is_row)
-              (All-push (λ (f : FrontValue). HasMissedNone turn f guard.entries) rest front
-              (subst (λ J. All (λ f. HasMissedNone turn f J) rest) same_list entered.returned.missed_none) none);
-          fronts = is_back
-              ∙ ap (λ l. l ++ back ∷ []) entered.returned.fronts
-              ∙ ap (λ x. map (seeing after.entries) rest ++ x ∷ []) back_is
-              ∙ sym (map-append (seeing after.entries) rest (front ∷ []))
-              ∙ ap (map (seeing after.entries)) (sym is_row)
-              ∙ ap (λ J. map (seeing J) row) (sym then_list);
+  -- the fronts go down and come back
+  pub entered_row : (turn : TurnId) (guard inside after last : GuardValue (Kept D N)) (before then : PassValue) (call : Call) (found : Outcome) (result : Result Outcome Halt)
+      (fronts fronts_after : List FrontValue) → guard.enlisted ≡ []
+      → inside ≡ with_enlisted guard (sites_of fronts ++ guard.enlisted) → All (λ f. HasMissedNone turn f guard.entries) fronts
+      → Pushed view faults c first capacity inside after before then call found result
+      → last ≡ with_enlisted after [] → fronts_after ≡ fronts_at after.entries after.enlisted
+      → Entered view faults c first capacity turn guard last before then fronts fronts_after call found result
+  entered_row turn guard inside after last before then call found result fronts fronts_after none is_inside missed pushed is_last back =
+      let p : Pushed view faults c first capacity (with_enlisted guard (sites_of fronts ++ guard.enlisted)) after before then call found result =
+      subst (λ (g : GuardValue (Kept D N)). Pushed view faults c first capacity g after before then call found result) is_inside pushed in
+      let sites : after.enlisted ≡ sites_of fronts = p.enlisted ∙ ap (λ l. sites_of fronts ++ l) none ∙ append-nil (sites_of fronts) in
+      let entered : Entered view faults c first capacity turn guard (with_enlisted after []) before then fronts fronts_after call found result = record {
+        pushed = record {
+          enlisted = sym none;
+          front = p.front;
+          call_ends = ends_alike guard after (sites_of fronts ++ guard.enlisted) [] before then call found result p.call_ends;
         };
-      }
+        returned = record {
+          missed_none = missed;
+          fronts = back ∙ ap (fronts_at after.entries) sites ∙ seen_by_all after.entries fronts;
+        };
+      } in
+      subst (λ (g : GuardValue (Kept D N)). Entered view faults c first capacity turn guard g before then fronts fronts_after call found result) (sym is_last) entered

@@ -1,11 +1,10 @@
 -- The sites of a call, whose locks it takes one after the other and gives back with the entry.
-use Rattle.std.proofs.Common.{◌≡◌, ℕ, ◌-◌, ◌<◌, Bool, true, false, cond, List, [], ◌∷◌, ◌++◌, length, map, take, get_or, Option, Some, None, Result, Ok, Err, refl, sym, ap, ◌∙◌, subst, arith, append-nil, length-append}
-use Rattle.std.specs.Prelude.{slice_get, IfOk, IfErr}
+use Rattle.std.proofs.Common.{◌≡◌, ℕ, ◌<◌, Bool, true, false, cond, List, [], ◌∷◌, ◌++◌, length, map, take, get_or, Option, Some, None, Result, Ok, Err, refl, sym, ap, ◌∙◌, subst, arith, append-nil, length-append}
+use Rattle.std.specs.Prelude.{IfOk, IfErr}
 use Rattle.std.specs.List.{All, Contains}
 use Rattle.std.proofs.Math.Seq.{take-append_seam, get_or-append_seam}
-use Rattle.std.proofs.lemmas.List.{get_or_append_left, length-map, map-append}
+use Rattle.std.proofs.lemmas.List.{get_or_append_left, map-append}
 use Rattle.std.proofs.lemmas.List.Elements.{All-head, All-tail}
-use Rattle.std.proofs.lemmas.Option.{slice_get-get_or}
 use Rattle.dcr_set.specs.EventSet.{Set, has}
 use Rattle.dcr_graph.specs.Rows.{row}
 use Rattle.dcr_graph.specs.Rules.{Rules}
@@ -65,16 +64,11 @@ still_left fronts more front first left rest sites is at left_is are =
 
 -- ---- the row that comes back
 
--- it is not empty
-pub not_empty : (row rest after : List FrontValue) (front : FrontValue) (seen : List Entry) → row ≡ rest ++ front ∷ [] → after ≡ map (seeing seen) row
-    → None ≡ slice_get after (length after - 1) → ⊥
-not_empty row rest after front seen is back none =
-    let rows = ap length is in
-    let one = length-append rest (front ∷ []) in
-    let many = ap length back in
-    let as_many = length-map row (seeing seen) in
-    let found : None ≡ Some (get_or after (length after - 1) front) = none ∙ slice_get-get_or after (length after - 1) front (omega arith) in
-    cc
+-- its last is the front that was put there
+pub comes_back : (row rest after : List FrontValue) (front : FrontValue) (i : ℕ) (seen : List Entry) → row ≡ rest ++ front ∷ [] → front.site ≡ i → after ≡ map (seeing seen) row
+    → after ≡ map (seeing seen) rest ++ record { site = i; front = seen } ∷ []
+comes_back row rest after front i seen is at are =
+    are ∙ ap (map (seeing seen)) is ∙ map-append (seeing seen) rest (front ∷ []) ∙ ap (λ k. map (seeing seen) rest ++ record { site = k; front = seen } ∷ []) at
 
 same_ends : {X : Type 0} (xs ys : List X) (x y : X) → xs ++ x ∷ [] ≡ ys ++ y ∷ [] → (xs ≡ ys) × (x ≡ y)
 same_ends xs ys x y e =
@@ -86,7 +80,7 @@ same_ends xs ys x y e =
       sym (get_or-append_seam xs x [] x) ∙ ap (λ k. get_or (xs ++ x ∷ []) k x) n ∙ ap (λ l. get_or l (length ys) x) e ∙ get_or-append_seam ys y [] x,
     )
 
--- its last is the front that was put there, and the others are those from before
+-- and the others are those from before
 pub came_back : (row rest after rest_after : List FrontValue) (front back : FrontValue) (seen : List Entry) → row ≡ rest ++ front ∷ [] → after ≡ map (seeing seen) row
     → after ≡ rest_after ++ back ∷ [] → (rest_after ≡ map (seeing seen) rest) × (back ≡ seeing seen front)
 came_back row rest after rest_after front back seen is are back_is =

@@ -1,4 +1,3 @@
-mod RowLemmas
 mod PushLemmas
 mod EnterLemmas
 mod CommitLemmas

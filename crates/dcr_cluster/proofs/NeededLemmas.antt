@@ -1,11 +1,9 @@
 -- The sites whose locks a call takes.
-use Rattle.std.proofs.Common.{◌≡◌, ◌⊎◌, inl, inr, ℕ, zero, suc, ◌+◌, ◌<◌, ◌≤◌, List, [], ◌∷◌, length, sym, ap, ◌∙◌, subst, arith}
+use Rattle.std.proofs.Common.{◌≡◌, ◌⊎◌, inl, inr, ℕ, zero, suc, ◌+◌, ◌<◌, List, [], ◌∷◌, length, sym, ap, ◌∙◌, subst, arith}
 use Rattle.std.specs.Prelude.{slice_index_or}
 use Rattle.std.specs.List.{All, range_with_len}
 use Rattle.std.proofs.lemmas.List.FromFn.{length-range_with_len, get_or-range_with_len}
-use Rattle.std.proofs.lemmas.List.Sums.{length-filter, count_by-le-length}
-use Rattle.dcr_set.specs.EventSet.{Set, has, those}
-use Rattle.dcr_set.specs.EventSet.{numbers}
+use Rattle.dcr_set.specs.EventSet.{Set}
 use Rattle.dcr_set.proofs.SetLemmas.{length-those}
 use Rattle.dcr_graph.specs.Projection.{in_alphabet}
 use Rattle.dcr_graph.specs.Rows.{row}
@@ -37,23 +35,6 @@ participants_within c turn network sites e named is are =
     subst (All (λ i. i < length c.owned)) (sym are)
     (subst (λ n. All (λ i. i < n) (participants_of network e)) (ap length is ∙ as_many_sites c turn named) (participants_below network e))
 
-few_numbers : (s : Set) → length (numbers s) ≤ length s
-unfolding numbers
-few_numbers s =
-    let most = count_by-le-length (has s) (range_with_len 0 (length s)) in
-    omega (arith, length-filter (has s) (range_with_len 0 (length s)), length-range_with_len 0 (length s))
-
--- and there are no more than sites
-pub participants_few : (c : ClusterId) (turn : TurnId) (network : List Set) (sites : List ℕ) (e : ℕ) → IsNamed c turn → network ≡ turn.alphabets → sites ≡ participants_of network e
-    → length sites ≤ 64
-participants_few c turn network sites e named is are =
-    let as_many : length network ≡ length c.owned = ap length is ∙ as_many_sites c turn named in
-    let many = ap length are in
-    let few = few_numbers (those (length network) (λ i. has (slice_index_or network i []) e)) in
-    let room = length-those (length network) (λ i. has (slice_index_or network i []) e) in
-    let most = named.most_sites in
-    omega arith
-
 -- ---- all sites
 
 pub all_within : (n : ℕ) (sites : List ℕ) → sites ≡ range_with_len 0 n → All (λ i. i < n) sites
@@ -64,9 +45,6 @@ all_within n sites are = subst (All (λ i. i < n)) (sym are) (λ k d below.
 
 pub all_count : (n : ℕ) (sites : List ℕ) → sites ≡ range_with_len 0 n → length sites ≡ n
 all_count n sites are = ap length are ∙ length-range_with_len 0 n
-
-pub all_few : (n : ℕ) (sites : List ℕ) → sites ≡ range_with_len 0 n → n ≤ 64 → length sites ≤ 64
-all_few n sites are few = let many = ap length are in let e = length-range_with_len 0 n in omega arith
 
 -- ---- one site
 

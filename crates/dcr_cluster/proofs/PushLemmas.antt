@@ -73,22 +73,21 @@ module _ {D N : Type 0} (view : D → DiskView) (faults : D → ℕ) (c : Cluste
       (can_keep view faults first c guard.entries guard.kept.store stands (no_fault_by_last c guard.entries stands.legal ends) (omega arith) few)
 
   -- what is made where there is room
-  pub pushed_one : (guard after : GuardValue (Kept D N)) (lent kept : Kept D N) (pass then : PassValue) (call : Call) (found told outcome : Outcome) (spare : ℕ)
+  pub pushed_one : (guard after : GuardValue (Kept D N)) (lent kept : Kept D N) (pass then : PassValue) (call : Call) (found told : Outcome) (spare : ℕ)
       → StandsBy view faults c first guard.entries guard.kept.store → EndsWithoutFault guard.entries → pass.front ≡ guard.entries → pass.made ≡ made_by pass.session guard.entries
       → IsCall c call → spare + length guard.entries ≡ capacity → ¬ (spare ≡ 0)
       → lent ≡ guard.kept
       → ((J : List Entry) → StoreStands view faults first c.old J lent.store → IsToldAs first found told)
       → ((J : List Entry) (entry : Entry) → StandsBy view faults c first J lent.store → HasNoFault J → IsCall c call → entry.call ≡ call → entry.seq ≡ made_by entry.session J
       → found ≡ answer_after c J call → entry.outcome ≡ told → StandsBy view faults c first (J ++ entry ∷ []) kept.store)
-      → outcome ≡ told
-      → after ≡ with_entries (with_kept guard kept) (guard.entries ++ entry_of pass call outcome ∷ [])
+      → after ≡ with_entries (with_kept guard kept) (guard.entries ++ entry_of pass call told ∷ [])
       → then.session ≡ pass.session → then.front ≡ after.entries → then.made ≡ pass.made + 1
       → Pushed view faults c first capacity guard after pass then call found (Ok told)
-  pushed_one guard after lent kept pass then call found told outcome spare stands ends met made is_call room spared as_kept told_as keeps same is session front more =
+  pushed_one guard after lent kept pass then call found told spare stands ends met made is_call room spared as_kept told_as keeps is session front more =
       let stood : StandsBy view faults c first guard.entries lent.store = subst (λ (k : Kept D N). StandsBy view faults c first guard.entries k.store) (sym as_kept) stands in
       let none : HasNoFault guard.entries = no_fault_by_last c guard.entries stands.legal ends in
       let entry : Entry = entry_of pass call told in
-      let entries : after.entries ≡ guard.entries ++ entry ∷ [] = ap (λ (g : GuardValue (Kept D N)). g.entries) is ∙ ap (λ (o : Outcome). guard.entries ++ entry_of pass call o ∷ []) same in
+      let entries : after.entries ≡ guard.entries ++ entry ∷ [] = ap (λ (g : GuardValue (Kept D N)). g.entries) is in
       let stored : after.kept ≡ kept = ap (λ (g : GuardValue (Kept D N)). g.kept) is in
       record {
         enlisted = ap (λ (g : GuardValue (Kept D N)). g.enlisted) is;

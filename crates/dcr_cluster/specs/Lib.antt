@@ -1,4 +1,3 @@
-pub mod FrontRowModel
 pub mod ClusterModel
 pub mod Calls
 pub mod Entering

@@ -5,19 +5,18 @@ ghost use Rattle.dcr_cell.specs.Asking.{AreEnough, sites_for, sites_of, unasked,
 ghost use Rattle.dcr_cell.specs.ClusterId.{IsCall};
 ghost use Rattle.dcr_cluster.specs.Calls.{AnsweredAfter, HaltedAfter, Made, Tried, done_by, ending};
 
-use crate::front_row::FrontRow;
 use crate::push::enter;
 use crate::{Cluster, Halt};
 use dcr_base::{Disk, Gate};
 use dcr_cell::{Cell, StoreName};
 use dcr_journal::{Call, Outcome};
 use dcr_set::{EventId, SiteId};
-use dcr_turn::Pass;
+use dcr_turn::{FrontRow, Pass};
 use std::slice;
 use std::sync::Wait;
 
 impl<D: Disk, G: Gate, N: StoreName<D>> Cluster<D, G, N> {
-    ghost use Rattle.std.specs.Prelude.{◌<◌, ◌≤◌, ◌+◌};
+    ghost use Rattle.std.specs.Prelude.{◌<◌};
 
     /// Makes one call of the pass's session, and answers what the graph answers after all entries before it. It takes the
     /// locks of the sites that it asks in ascending order, each site answering by its own marks, comes by the gate, takes
@@ -34,7 +33,7 @@ impl<D: Disk, G: Gate, N: StoreName<D>> Cluster<D, G, N> {
         ensures answered { IfOk result (λ outcome. (J : List Entry) × AnsweredAfter N.cluster N.first N.capacity J pass.old pass.new call outcome) }
         ensures halted { IfErr result (HaltedAfter N.cluster N.first N.capacity pass.new.front pass.old pass.new) }
     {
-        let mut fronts = FrontRow::new();
+        let mut fronts = self.turn.row();
         let mut told = unasked(&call);
         match self.make(rt, pass, &mut fronts, &call, &mut told) {
             Ok(()) => Ok(told),
@@ -70,7 +69,6 @@ impl<D: Disk, G: Gate, N: StoreName<D>> Cluster<D, G, N> {
         requires { IsCall N.cluster call.now }
         ensures sites { result.now ≡ sites_for N.cluster N.turn call.now }
         ensures within { All (λ i. i < length N.cluster.owned) result.now }
-        ensures few { length result.now ≤ 64 }
     {
         match call {
             Call::Exec(i, e) => {
@@ -100,22 +98,18 @@ impl<D: Disk, G: Gate, N: StoreName<D>> Cluster<D, G, N> {
         requires unasked { found.old ≡ unasked call.now }
         ensures { Tried N.cluster N.first N.capacity N.turn pass.old pass.new fronts.old fronts.new call.now found.old found.new result }
     {
-        let Call::Exec(site, _) = call else {
+        let Call::Exec(first, e) = call else {
             return None;
         };
-        let (grip, own) = self.cells.lock(rt, site.0).split();
-        own.ask(call, found);
-        if let Outcome::Done = found {
+        let (grip, own) = self.cells.lock(rt, first.0).split();
+        if !own.blocks(*e, found) {
             grip.join(own).unlock();
-            *found = Outcome::NotHere;
             return None;
         }
-        let Cell { site, front: seen } = own;
-        fronts.push(seen);
+        let Cell { site, front } = own;
+        self.turn.put_on(fronts, front);
         let ended = self.commit(rt, pass, fronts, call, found);
-        let Some(front) = fronts.pop() else {
-            unreachable!()
-        };
+        let front = self.turn.take_off(fronts, *first, pass);
         grip.join(Cell { site, front }).unlock();
         Some(ended)
     }
@@ -135,7 +129,6 @@ impl<D: Disk, G: Gate, N: StoreName<D>> Cluster<D, G, N> {
         requires call { IsCall N.cluster call.now }
         requires sites { sites_of fronts.old ++ left.now ≡ sites_for N.cluster N.turn call.now }
         requires within { All (λ i. i < length N.cluster.owned) left.now }
-        requires few { length fronts.old + length left.now ≤ 64 }
         requires found { Found N.cluster call.now fronts.old found.old }
         ensures { Made N.cluster N.first N.capacity N.turn pass.old pass.new fronts.old fronts.new call.now (ending found.new result) }
     {
@@ -145,11 +138,9 @@ impl<D: Disk, G: Gate, N: StoreName<D>> Cluster<D, G, N> {
         let (grip, cell) = self.cells.lock(rt, first.0).split();
         cell.ask(call, found);
         let Cell { mut site, front } = cell;
-        fronts.push(front);
+        self.turn.put_on(fronts, front);
         let ended = self.gather(rt, pass, fronts, call, rest, found);
-        let Some(front) = fronts.pop() else {
-            unreachable!()
-        };
+        let front = self.turn.take_off(fronts, *first, pass);
         if let Some(e) = done_by(call, found, &ended) {
             site.apply(e);
         }
@@ -167,7 +158,6 @@ impl<D: Disk, G: Gate, N: StoreName<D>> Cluster<D, G, N> {
         found: &mut Outcome,
     ) -> Result<(), Halt>
         requires call { IsCall N.cluster call.now }
-        requires few { length fronts.old ≤ 64 }
         requires enough { AreEnough N.cluster N.turn call.now (sites_of fronts.old) found.old }
         requires found { Found N.cluster call.now fronts.old found.old }
         ensures { Made N.cluster N.first N.capacity N.turn pass.old pass.new fronts.old fronts.new call.now (ending found.new result) }

@@ -5,7 +5,6 @@ mod blank;
 mod call;
 mod close;
 mod cluster;
-mod front_row;
 mod going_on;
 mod halt;
 mod open;

@@ -1,18 +1,16 @@
 // What is done under the journal's lock.
-ghost use Rattle.std.specs.Prelude.{◌≤◌, ◌++◌, length};
+ghost use Rattle.std.specs.Prelude.{◌≡◌, [], ◌++◌};
 ghost use Rattle.dcr_cell.specs.Asking.{sites_of};
 ghost use Rattle.dcr_cluster.specs.Calls.{ending};
 ghost use Rattle.dcr_cluster.specs.Entering.{Entered, MayEnter, Pushed};
 
 use crate::Halt;
-use crate::front_row::FrontRow;
 use dcr_base::Disk;
 use dcr_cell::{Kept, StoreName};
 use dcr_journal::{Call, Outcome};
-use dcr_turn::{Pass, TurnGuard};
+use dcr_turn::{FrontRow, Pass, TurnGuard};
 
-/// Lays the fronts beside the journal, one after the other, makes the entry, and takes them back. What was found becomes
-/// what the call is told.
+/// Lays the fronts beside the journal, makes the entry, and takes them back. What was found becomes what the call is told.
 pub(crate) fn enter<D: Disk, N: StoreName<D>>(
     guard: &mut TurnGuard<'_, Kept<D, N>, N>,
     pass: &mut Pass<N>,
@@ -20,17 +18,13 @@ pub(crate) fn enter<D: Disk, N: StoreName<D>>(
     call: &Call,
     found: &mut Outcome,
 ) -> Result<(), Halt>
-    requires few { length fronts.old ≤ 64 }
+    requires none { guard.old.enlisted ≡ [] }
     requires ready { MayEnter D.view D.faults N.cluster N.first N.capacity N.turn guard.old pass.old call.now found.old (sites_of fronts.old ++ guard.old.enlisted) }
     ensures { Entered D.view D.faults N.cluster N.first N.capacity N.turn guard.old guard.new pass.old pass.new fronts.old fronts.new call.now found.old (ending found.new result) }
 {
-    let Some(front) = fronts.pop() else {
-        return push(guard, pass, call, found);
-    };
-    let site = front.site();
-    guard.enlist(front);
-    let ended = enter(guard, pass, fronts, call, found);
-    fronts.push(guard.dismiss(site));
+    guard.enlist_row(fronts);
+    let ended = push(guard, pass, call, found);
+    guard.dismiss_row(fronts);
     ended
 }
 
@@ -55,6 +49,6 @@ fn push<D: Disk, N: StoreName<D>>(
         });
     }
     guard.kept().tell(call, found);
-    guard.push(pass, *call, found.copy());
+    guard.push(pass, *call, found);
     Ok(())
 }

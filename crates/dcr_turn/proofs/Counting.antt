@@ -1,7 +1,8 @@
 -- How often a holder stands among records, and in all views.
-use Rattle.std.proofs.Common.{◌≡◌, ◌≢◌, ℕ, zero, suc, ◌+◌, ◌<◌, ◌≤◌, Bool, true, false, List, [], ◌∷◌, ◌++◌, length, map, set, sym, refl, ap, ◌∙◌, arith}
+use Rattle.std.proofs.Common.{◌≡◌, ◌≢◌, ℕ, zero, suc, ◌+◌, ◌<◌, ◌≤◌, Bool, true, false, List, [], ◌∷◌, ◌++◌, length, map, set, take, drop, sym, refl, ap, ◌∙◌, arith}
 use Rattle.std.proofs.lemmas.Bool.{false≢true}
 use Rattle.std.proofs.lemmas.Bool.Decides.{nat_tests}
+use Rattle.std.proofs.lemmas.List.{take-append-drop}
 use Rattle.std.specs.Prelude.{nat_lt, ◌==◌}
 use mathlib.Core.Option.{some, some-injective, some-ne-none}
 use lib.ListN.{get_elem?}
@@ -63,6 +64,9 @@ pub times-cut : (x : Holder) (v : List Record) → times x (kept v) + times x (c
 times-cut x [] = refl
 times-cut x (r ∷ []) = omega arith
 times-cut x (r ∷ q ∷ rs) = omega arith
+
+pub times-parted : (x : Holder) (n : ℕ) (v : List Record) → times x (take n v) + times x (drop n v) ≡ times x v
+times-parted x n v = sym (times-append x (take n v) (drop n v)) ∙ ap (times x) (take-append-drop n v)
 
 times-out_step : (x y : Holder) (r : Record) (rs : List Record) → times x (without y rs) + times x (only y rs) ≡ times x rs → (b : Bool) → same y r.holder ≡ b
     → times x (without y (r ∷ rs)) + times x (only y (r ∷ rs)) ≡ times x (r ∷ rs)

@@ -1,13 +1,13 @@
 -- Each kind of step keeps the rule, for any number of sites and sessions.
-use Rattle.std.proofs.Common.{◌≡◌, ◌≢◌, ℕ, zero, suc, ◌+◌, ◌<◌, Bool, true, false, List, [], ◌∷◌, ◌++◌, length, map, set, sym, refl, ap, ◌∙◌, subst, inl, inr, arith, length-append}
+use Rattle.std.proofs.Common.{◌≡◌, ◌≢◌, ℕ, zero, suc, ◌+◌, ◌<◌, Bool, true, false, List, [], ◌∷◌, ◌++◌, length, map, set, take, drop, sym, refl, ap, ◌∙◌, subst, inl, inr, arith, length-append}
 use Rattle.std.specs.Prelude.{slice_index, ◌==◌, nat_lt}
 use Rattle.std.specs.List.{All}
 use Rattle.std.proofs.lemmas.Bool.Decides.{nat_tests}
-use Rattle.std.proofs.lemmas.List.Elements.{All-nil, All-cons, All-head, All-tail, All-append, All-set, All-push}
+use Rattle.std.proofs.lemmas.List.Elements.{All-nil, All-cons, All-head, All-tail, All-append, All-set, All-push, All-take, All-drop}
 use mathlib.Core.Option.{some, none, some-injective, some-ne-none}
 use prog.Atomic.{either}
 use lib.ListN.{get_elem?}
-use Rattle.atomic_table.specs.Table.{State, step, keeps, opening, Allows, Splits, Joins}
+use Rattle.atomic_table.specs.Table.{State, step, keeps, opening, Allows, Enters, Splits, Joins}
 use Rattle.atomic_table.proofs.Lists.{at_set, set_else, exchanged}
 use Rattle.dcr_set.specs.EventSet.{Set}
 use Rattle.dcr_journal.specs.declared.call.Entry.{Entry}
@@ -16,9 +16,9 @@ use Rattle.dcr_turn.specs.declared.record.Holder.TheVariants.{Journal, Site, Ses
 use Rattle.dcr_turn.specs.declared.record.Record.{Record}
 use Rattle.dcr_turn.specs.Records.{concerns, is_of_turn, once, times, told, first_seen, everyone, without, only, sites_from, sessions_from, same}
 use Rattle.dcr_turn.specs.Rule.{IsRight, Keeps}
-use Rattle.dcr_turn.specs.Steps.{Publishes, Stand, Hears, longer, with_longer, Compares, joined, kept, cut, IsJournalFirst}
+use Rattle.dcr_turn.specs.Steps.{Publishes, Sits, Stand, Hears, longer, with_longer, Compares, joined, kept, cut, IsJournalFirst}
 use Rattle.dcr_turn.proofs.Covering.{covers_itself, covers_one_more, covers_all, longer_covers}
-use Rattle.dcr_turn.proofs.Counting.{once_most, once_there, same_self, times-told, times-longer, times-joined, times-cut, times-out, times-everyone, standing-set, standing-push, standing-has, standing-has_two}
+use Rattle.dcr_turn.proofs.Counting.{once_most, once_there, same_self, times-told, times-longer, times-append, times-joined, times-cut, times-parted, times-out, times-everyone, standing-set, standing-push, standing-has, standing-has_two}
 
 module _ {X : Type 0} (P : X → Type 0) where
   All-at : (xs : List X) (i : ℕ) (x : X) → All P xs → get_elem? xs i ≡ some x → P x
@@ -221,23 +221,46 @@ module _ (A : List Set) (m : ℕ) where
   pub takes_out : (id : ℕ) (y : Holder) (v : List Record) → Splits (Keeps A m) id v (without y v) (only y v)
   takes_out id y v = splits id v (without y v) (only y v) (λ x. times-out x y v) (λ P all. (All-without P y v all, All-only P y v all))
 
+  pub parts : (id n : ℕ) (v : List Record) → Splits (Keeps A m) id v (take n v) (drop n v)
+  parts id n v = splits id v (take n v) (drop n v) (λ x. times-parted x n v) (λ P all. (All-take P n v all, All-drop P n v all))
+
+  -- a new seat
+  pub sits : (slots : ℕ) → Enters (Keeps A m) slots 0 (λ n w. Sits (step slots 0 0 0 none) ([], []) n (w, []))
+  sits slots s kept len bound = (
+    [],
+    record {
+      history = kept.history;
+      word = kept.word;
+      right = All-push (All (IsRight A kept.history)) s.views [] kept.right (All-nil (IsRight A kept.history));
+      one_each = λ x. let a = standing-push x s.views [] in let b = kept.one_each x in omega arith;
+      below = kept.below;
+    },
+    refl,
+  )
+
   -- join
-  pub joins : (id : ℕ) (v : List Record) (other : ℕ) (w : List Record) → Joins (Keeps A m) id v other w (joined v w) []
-  joins id v other w s kept at ne there =
+  joins_as : (id : ℕ) (v : List Record) (other : ℕ) (w u : List Record) → ((x : Holder) → times x u ≡ times x v + times x w) → ((P : Record → Type 0) → All P v → All P w → All P u)
+      → Joins (Keeps A m) id v other w u []
+  joins_as id v other w u counts both s kept at ne there =
       let P = All (IsRight A kept.history) in
-      let u = joined v w in
       let before : get_elem? s.views other ≡ some w = sym (set_else s.views id other u ne) ∙ there in record {
         history = kept.history;
         word = kept.word;
         right = All-set P (set s.views id u) other [] (All-nil (IsRight A kept.history))
-            (All-set P s.views id u (All-joined (IsRight A kept.history) v w (right_here s kept id v at) (right_here s kept other w before)) kept.right);
+            (All-set P s.views id u (both (IsRight A kept.history) (right_here s kept id v at) (right_here s kept other w before)) kept.right);
         one_each = λ x.
             let a = standing-set x s.views id v u at in
             let b = standing-set x (set s.views id u) other w [] there in
-            let c = times-joined x v w in
+            let c = counts x in
             let d = kept.one_each x in omega arith;
         below = kept.below;
       }
+
+  pub joins : (id : ℕ) (v : List Record) (other : ℕ) (w : List Record) → Joins (Keeps A m) id v other w (joined v w) []
+  joins id v other w = joins_as id v other w (joined v w) (λ x. times-joined x v w) (λ P. All-joined P v w)
+
+  pub appends : (id : ℕ) (v : List Record) (other : ℕ) (w : List Record) → Joins (Keeps A m) id v other w (v ++ w) []
+  appends id v other w = joins_as id v other w (v ++ w) (λ x. times-append x v w) (λ P. All-append P v w)
 
   -- the table at the start
   All-sites : (i n : ℕ) → All (IsRight A []) (sites_from i n)

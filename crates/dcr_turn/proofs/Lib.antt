@@ -5,4 +5,5 @@ mod Keeping
 mod Visiting
 mod Passing
 mod GivingOut
+mod Rows
 pub mod Covered

@@ -28,7 +28,7 @@ sites_know J sites = map (λ i. knowing J (Site i)) sites
 abbrev pub with_visitor : List Entry → Record → List ℕ → List Record
 with_visitor J r sites = knowing J Journal ∷ r ∷ sites_know J sites
 
-sites_told : (H J : List Entry) (L : List ℕ) → map (told J) (sites_know H L) ≡ sites_know J L
+pub sites_told : (H J : List Entry) (L : List ℕ) → map (told J) (sites_know H L) ≡ sites_know J L
 sites_told H J [] = refl
 sites_told H J (i ∷ L) = ap (λ (rs : List Record). knowing J (Site i) ∷ rs) (sites_told H J L)
 

@@ -15,6 +15,10 @@ pub record FrontValue : Type 0 where
 abbrev pub HasMissedNone : TurnId → FrontValue → List Entry → Type 0
 HasMissedNone turn site J = Covers (is_heard (slice_index_or turn.alphabets site.site [])) site.front J
 
+-- the fronts of these sites, which have seen these entries
+abbrev pub fronts_at : List Entry → List ℕ → List FrontValue
+fronts_at J sites = map (λ (i : ℕ). record { site = i; front = J }) sites
+
 -- the fronts of so many sites, in order, which have seen nothing
 abbrev pub new_fronts : ℕ → List FrontValue
 new_fronts sites = map (λ (i : ℕ). record { site = i; front = [] }) (range_with_len 0 sites)

@@ -10,6 +10,7 @@ pub mod Rule
 pub mod Steps
 pub mod BlankModel
 pub mod FrontModel
+pub mod FrontRowModel
 pub mod PassModel
 pub mod DeskValue
 pub mod DeskModel

@@ -50,6 +50,10 @@ Compares alphabets sessions s before found after =
 abbrev pub joined : List Record → List Record → List Record
 joined mine others = take 1 mine ++ others ++ drop 1 mine
 
+-- a new seat has no record
+abbrev pub Sits : Step Entry → Place → ℕ → Place → Type 0
+Sits s before found after = after ≡ ([], [])
+
 -- split: the second record goes
 abbrev pub kept : List Record → List Record
 kept records = take 1 records ++ drop 2 records

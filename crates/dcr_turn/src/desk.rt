@@ -1,14 +1,14 @@
-ghost use Rattle.std.specs.Prelude.{◌≡◌, ◌+◌, ◌-◌, ◌<◌, [], ◌∷◌, ◌++◌, length, slice_get};
+ghost use Rattle.std.specs.Prelude.{◌≡◌, ◌+◌, ◌-◌, ◌<◌, [], ◌∷◌, ◌++◌, length, map, slice_get};
 ghost use Rattle.std.specs.List.{All, Contains};
 ghost use Rattle.dcr_journal.specs.declared.call.Entry.{Entry};
-ghost use Rattle.dcr_turn.specs.FrontValue.{HasMissedNone};
+ghost use Rattle.dcr_turn.specs.FrontValue.{FrontValue, HasMissedNone, fronts_at};
 ghost use Rattle.dcr_turn.specs.PassValue.{HasMadeAll};
 ghost use Rattle.dcr_turn.specs.Pushing.{AllHear, ends_in_fault, entry_of, is_fault, without_first};
 ghost use Rattle.dcr_turn.specs.Records.{all_know};
 
 use crate::order::Order;
 use crate::records::Records;
-use crate::{Front, Pass, TurnName};
+use crate::{Front, FrontRow, Pass, TurnName};
 use dcr_journal::{Call, Entry, Journal, Outcome};
 use dcr_set::SiteId;
 use std::marker::{Brand, Model};
@@ -75,6 +75,27 @@ impl<N: TurnName> Desk<N> {
         self.records.hear(order);
     }
 
+    /// All fronts of the row lie here then, and none is left on it.
+    pub(crate) fn enlist_row(&mut self, order: &Order<N>, row: &mut FrontRow<N>)
+        ensures entries { self.new.entries ≡ self.old.entries }
+        ensures enlisted { self.new.enlisted ≡ map (λ (f : FrontValue). f.site) row.old ++ self.old.enlisted }
+        ensures seen { All (λ front. HasMissedNone N.turn front self.old.entries) row.old }
+        ensures row { row.new ≡ [] }
+    {
+        self.records.join(order, row.take_all(order));
+        self.records.hear(order);
+    }
+
+    /// Gives the fronts of all sites that lie here. They have seen the whole list.
+    pub(crate) fn dismiss_row(&mut self, order: &Order<N>, row: &mut FrontRow<N>)
+        requires { row.old ≡ [] }
+        ensures entries { self.new.entries ≡ self.old.entries }
+        ensures enlisted { self.new.enlisted ≡ [] }
+        ensures row { row.new ≡ fronts_at self.old.entries self.old.enlisted }
+    {
+        row.put_all(order, self.records.part::<Brand>(order));
+    }
+
     /// All these fronts lie here then.
     pub(crate) fn enlist_all(&mut self, order: &Order<N>, mut fronts: Vec<Front<N>>)
         ensures entries { self.new.entries ≡ self.old.entries }
@@ -113,23 +134,23 @@ impl<N: TurnName> Desk<N> {
         order: &Order<N>,
         pass: &mut Pass<N>,
         call: Call,
-        outcome: Outcome,
+        outcome: &Outcome,
     )
         requires met { pass.old.front ≡ self.old.entries }
         requires room { length self.old.entries < N.capacity }
-        requires hear { AllHear N.turn.alphabets self.old.enlisted call outcome }
-        ensures entries { self.new.entries ≡ self.old.entries ++ entry_of pass.old call outcome ∷ [] }
+        requires hear { AllHear N.turn.alphabets self.old.enlisted call outcome.now }
+        ensures entries { self.new.entries ≡ self.old.entries ++ entry_of pass.old call outcome.now ∷ [] }
         ensures enlisted { self.new.enlisted ≡ self.old.enlisted }
         ensures session { pass.new.session ≡ pass.old.session }
         ensures front { pass.new.front ≡ self.new.entries }
         ensures made { pass.new.made ≡ pass.old.made + 1 }
     {
-        let faulted = is_fault_told(&outcome);
+        let faulted = is_fault_told(outcome);
         let entry = Entry {
             session: pass.session,
             seq: pass.made,
             call,
-            outcome,
+            outcome: outcome.copy(),
         };
         self.records.join(order, Records::out_of(&mut pass.badge));
         self.records.publish(order, self.journal.len(), &entry);

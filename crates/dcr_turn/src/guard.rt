@@ -1,7 +1,7 @@
-ghost use Rattle.std.specs.Prelude.{◌≡◌, ◌+◌, ◌-◌, ◌<◌, [], ◌∷◌, ◌++◌, length, slice_get};
+ghost use Rattle.std.specs.Prelude.{◌≡◌, ◌+◌, ◌-◌, ◌<◌, [], ◌∷◌, ◌++◌, length, map, slice_get};
 ghost use Rattle.std.specs.Borrow.{Lends, sem};
-ghost use Rattle.std.specs.List.{Contains};
-ghost use Rattle.dcr_turn.specs.FrontValue.{HasMissedNone};
+ghost use Rattle.std.specs.List.{All, Contains};
+ghost use Rattle.dcr_turn.specs.FrontValue.{FrontValue, HasMissedNone, fronts_at};
 ghost use Rattle.dcr_turn.specs.GuardValue.{with_enlisted, with_entries, with_kept};
 ghost use Rattle.dcr_turn.specs.PassValue.{HasMadeAll};
 ghost use Rattle.dcr_turn.specs.Pushing.{AllHear, EndsWithoutFault, ends_in_fault, entry_of, without_first};
@@ -9,7 +9,7 @@ ghost use mir.Syntax.{named};
 
 use crate::order::Order;
 use crate::turn::{Beside, Locked};
-use crate::{Front, Keeps, Pass, TurnName};
+use crate::{Front, FrontRow, Keeps, Pass, TurnName};
 use dcr_journal::{Call, Entry, Outcome};
 use dcr_lock::Grip;
 use dcr_set::SiteId;
@@ -84,14 +84,33 @@ impl<'a, K: Keeps, N: TurnName> TurnGuard<'a, K, N> {
         self.beside.desk.dismiss(self.order, site)
     }
 
+    /// The fronts of the row lie beside the journal then, and none is left on it. Each begins the journal's list, and no
+    /// execution after it was of its site's alphabet.
+    pub fn enlist_row(&mut self, row: &mut FrontRow<N>)
+        ensures enlisted { self.new ≡ with_enlisted self.old (map (λ (f : FrontValue). f.site) row.old ++ self.old.enlisted) }
+        ensures seen { All (λ front. HasMissedNone N.turn front self.old.entries) row.old }
+        ensures row { row.new ≡ [] }
+    {
+        self.beside.desk.enlist_row(self.order, row);
+    }
+
+    /// Gives the fronts of all enlisted sites to the row. They have seen the journal's list.
+    pub fn dismiss_row(&mut self, row: &mut FrontRow<N>)
+        requires { row.old ≡ [] }
+        ensures enlisted { self.new ≡ with_enlisted self.old [] }
+        ensures row { row.new ≡ fronts_at self.old.entries self.old.enlisted }
+    {
+        self.beside.desk.dismiss_row(self.order, row);
+    }
+
     /// Pushes the one entry of a call: of the pass's session, numbered by the calls that it made. The pass was met,
     /// there is room, no fault ends the list, and where an execution was done all its participants are enlisted.
-    pub fn push(&mut self, pass: &mut Pass<N>, call: Call, outcome: Outcome)
+    pub fn push(&mut self, pass: &mut Pass<N>, call: Call, outcome: &Outcome)
         requires met { pass.old.front ≡ self.old.entries }
         requires room { length self.old.entries < N.capacity }
         requires unfaulted { EndsWithoutFault self.old.entries }
-        requires hear { AllHear N.turn.alphabets self.old.enlisted call outcome }
-        ensures entries { self.new ≡ with_entries self.old (self.old.entries ++ entry_of pass.old call outcome ∷ []) }
+        requires hear { AllHear N.turn.alphabets self.old.enlisted call outcome.now }
+        ensures entries { self.new ≡ with_entries self.old (self.old.entries ++ entry_of pass.old call outcome.now ∷ []) }
         ensures session { pass.new.session ≡ pass.old.session }
         ensures front { pass.new.front ≡ self.new.entries }
         ensures made { pass.new.made ≡ pass.old.made + 1 }

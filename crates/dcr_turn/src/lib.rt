@@ -4,6 +4,7 @@
 mod blank;
 mod desk;
 mod front;
+mod front_row;
 mod guard;
 mod laws;
 mod name;
@@ -16,6 +17,7 @@ mod turn;
 
 pub use blank::TurnBlank;
 pub use front::Front;
+pub use front_row::FrontRow;
 pub use guard::TurnGuard;
 pub use laws::covered_fronts_are_enough;
 pub use name::{Keeps, TurnName};

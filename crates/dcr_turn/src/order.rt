@@ -79,6 +79,26 @@ impl Join<View> for Behind {
     ghost spent = { [] };
 }
 
+/// New seat: it has no record.
+pub struct Sit;
+
+impl Play<Entry, View> for Sit {
+    ghost use Rattle.dcr_turn.specs.Steps.{Sits};
+
+    ghost then = { Sits };
+}
+
+/// Join: the other seat's records come behind all, and none is left to it.
+pub struct AtEnd;
+
+impl Join<View> for AtEnd {
+    ghost use Rattle.std.specs.Prelude.{[], ◌++◌};
+
+    ghost both = { λ mine others. mine ++ others };
+
+    ghost spent = { [] };
+}
+
 /// Split: the second record goes.
 pub struct Second;
 
@@ -114,6 +134,30 @@ impl<B: Which> Split<View> for Named<B> {
     ghost left = { without B.holder };
 
     ghost right = { only B.holder };
+}
+
+/// Names a place among records.
+pub trait Place {
+    ghost use Rattle.std.specs.Prelude.{ℕ};
+
+    ghost place: { ℕ };
+}
+
+impl Place for std::marker::Brand {
+    ghost place = { 0 };
+}
+
+/// Split: the records from the named place on go.
+pub struct Onward<B> {
+    of: PhantomData<B>,
+}
+
+impl<B: Place> Split<View> for Onward<B> {
+    ghost use Rattle.std.specs.Prelude.{take, drop};
+
+    ghost left = { take B.place };
+
+    ghost right = { drop B.place };
 }
 
 /// The word under the name of its turn. Threads share it by reference.

@@ -1,4 +1,4 @@
-ghost use Rattle.std.specs.Prelude.{◌≡◌, List, ◌<◌, true, [], ◌∷◌, ◌++◌, length, map};
+ghost use Rattle.std.specs.Prelude.{◌≡◌, List, ◌<◌, true, [], ◌∷◌, ◌++◌, length, map, take, drop};
 ghost use Rattle.dcr_turn.specs.Records.{concerns, is_of_turn, times, told, first_seen, without, only};
 ghost use Rattle.dcr_turn.specs.Steps.{IsJournalFirst, Stand, joined, kept, cut, with_longer};
 ghost use Rattle.dcr_turn.specs.declared.record.Holder.{Holder};
@@ -7,7 +7,10 @@ ghost use Rattle.dcr_turn.specs.declared.record.Record.{Record};
 ghost use Rattle.dcr_journal.specs.declared.call.Entry.{Entry};
 
 use crate::TurnName;
-use crate::order::{Behind, Compare, Hear, Named, Order, Publish, RecordSeat, Second, View, Which};
+use crate::order::{
+    AtEnd, Behind, Compare, Hear, Named, Onward, Order, Place, Publish, RecordSeat, Second, Sit,
+    View, Which,
+};
 use atomic_table::Badge;
 use dcr_journal::Entry;
 use dcr_set::SiteId;
@@ -45,6 +48,14 @@ impl<N: TurnName> Records<N> {
         }
     }
 
+    /// Of nobody.
+    pub(crate) fn none(order: &Order<N>) -> Records<N>
+        ensures { result ≡ [] }
+    {
+        let (_, seat) = order.table.shared.load_new_seat::<Sit>(0);
+        Records::new(seat)
+    }
+
     /// Out of the place where they lie, which is left without any.
     pub(crate) fn out_of(place: &mut Badge<View>) -> Records<N>
         requires mark { place.old.table_id ≡ N.turn.mark }
@@ -70,6 +81,22 @@ impl<N: TurnName> Records<N> {
     {
         let Records { seat, of: _ } = others;
         order.table.shared.join_seat::<Behind>(&mut self.seat, seat);
+    }
+
+    /// Takes in the records of another hand, behind all.
+    pub(crate) fn append(&mut self, order: &Order<N>, others: Records<N>)
+        ensures { self.new ≡ self.old ++ others }
+    {
+        let Records { seat, of: _ } = others;
+        order.table.shared.join_seat::<AtEnd>(&mut self.seat, seat);
+    }
+
+    /// Gives the records from the named place on into another hand.
+    pub(crate) fn part<B: Place>(&mut self, order: &Order<N>) -> Records<N>
+        ensures kept { self.new ≡ take B.place self.old }
+        ensures parted { result ≡ drop B.place self.old }
+    {
+        Records::new(order.table.shared.split_seat::<Onward<B>>(&mut self.seat))
     }
 
     /// Gives the second record into another hand.

@@ -1,14 +1,15 @@
-ghost use Rattle.std.specs.Prelude.{◌≡◌, ◌≢◌, ◌⊎◌, ◌<◌, ◌≤◌, [], length, IfOk, IfErr};
+ghost use Rattle.std.specs.Prelude.{◌≡◌, ◌≢◌, ◌⊎◌, ◌<◌, ◌≤◌, List, [], ◌∷◌, ◌++◌, length, IfOk, IfErr};
 ghost use Rattle.std.specs.List.{All};
 ghost use Rattle.dcr_journal.specs.declared.call.Entry.{Entry};
-ghost use Rattle.dcr_turn.specs.FrontValue.{HasMissedNone, new_fronts};
+ghost use Rattle.dcr_turn.specs.FrontValue.{FrontValue, HasMissedNone, new_fronts};
 ghost use Rattle.dcr_turn.specs.PassValue.{HasMadeAll, new_passes};
 
 use crate::desk::Desk;
 use crate::order::Order;
-use crate::{Front, Keeps, Pass, TurnBlank, TurnGuard, TurnName, TurnReady};
+use crate::{Front, FrontRow, Keeps, Pass, TurnBlank, TurnGuard, TurnName, TurnReady};
 use dcr_journal::Journal;
 use dcr_lock::{Placed, Row};
+use dcr_set::SiteId;
 use std::alloc::Global;
 use std::sync::Wait;
 
@@ -87,6 +88,29 @@ impl<K: Keeps, N: TurnName> Turn<K, N> {
     {
         let (grip, locked) = self.row.lock(rt, 0).split();
         TurnGuard::new(grip, &self.order, locked)
+    }
+
+    /// A row of no front.
+    pub fn row(&self) -> FrontRow<N>
+        ensures { result ≡ [] }
+    {
+        FrontRow::new(&self.order)
+    }
+
+    /// Adds a front to a row, behind the others.
+    pub fn put_on(&self, row: &mut FrontRow<N>, front: Front<N>)
+        ensures { row.new ≡ row.old ++ front ∷ [] }
+    {
+        row.push(&self.order, front);
+    }
+
+    /// Takes the last front off a row, which is the site's and has seen what the pass has.
+    pub fn take_off(&self, row: &mut FrontRow<N>, site: SiteId, pass: &Pass<N>) -> Front<N>
+        requires { (rest : List FrontValue) × (row.old ≡ rest ++ record { site = site; front = pass.now.front } ∷ []) }
+        ensures front { result ≡ record { site = site; front = pass.now.front } }
+        ensures rest { row.old ≡ row.new ++ result ∷ [] }
+    {
+        row.pop(&self.order, site, pass)
     }
 
     /// The first pass has seen the longer of both lists then, which both begin. The session's entries there are those

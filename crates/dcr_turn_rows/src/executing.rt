@@ -51,10 +51,13 @@ pub fn executed<N: TurnName, R: Wait>(
         grip.join(Cell { front }).unlock();
         return false;
     }
-    guard.enlist(front);
-    guard.push(pass, Call::Exec(site, EventId(i)), Outcome::Done);
-    let front = guard.dismiss(site);
+    let mut row = turn.row();
+    turn.put_on(&mut row, front);
+    guard.enlist_row(&mut row);
+    guard.push(pass, Call::Exec(site, EventId(i)), &Outcome::Done);
+    guard.dismiss_row(&mut row);
     guard.unlock();
+    let front = turn.take_off(&mut row, site, pass);
     grip.join(Cell { front }).unlock();
     true
 }

@@ -31,7 +31,7 @@ fn asked<N: TurnName, R: Wait>(rt: &R, turn: &Turn<Anything, N>, mut pass: Pass<
         None => false,
     };
     if !faulted && guard.spare() > 0 {
-        guard.push(&mut pass, Call::Accepting, Outcome::AllDone);
+        guard.push(&mut pass, Call::Accepting, &Outcome::AllDone);
     }
     guard.unlock();
     pass

@@ -25,6 +25,6 @@ pub returns : goal.returns
 returns g c =
     let ends : EndsWithoutFault c.args.guard.now.entries = no_fault_at_end c.args.guard.now.entries (sym c.is_faulted.ensures ∙ c.if-is_faulted.false) in
     pushed_one g.D.Disk.view g.D.Disk.faults g.N.ClusterName.cluster g.N.StoreName.first g.N.TurnName.capacity c.args.guard.now c.push.new.self c.kept.result.now c.tell.new.self
-    c.args.pass.now c.push.new.pass c.args.call.now c.args.found.now c.tell.new.told c.copy.result c.spare.result c.requires.stands ends c.requires.met c.requires.made c.requires.in_range
-    c.spare.ensures c.if-spare-eq0.false c.kept.ensures.value c.tell.ensures.told c.tell.ensures.kept c.copy.ensures c.push.ensures.entries c.push.ensures.session
+    c.args.pass.now c.push.new.pass c.args.call.now c.args.found.now c.tell.new.told c.spare.result c.requires.stands ends c.requires.met c.requires.made c.requires.in_range
+    c.spare.ensures c.if-spare-eq0.false c.kept.ensures.value c.tell.ensures.told c.tell.ensures.kept c.push.ensures.entries c.push.ensures.session
     c.push.ensures.front c.push.ensures.made

@@ -1,16 +1,21 @@
-use Rattle.std.proofs.Common.{◌∙◌, sym, subst, refl}
-use Rattle.dcr_journal.specs.declared.call.Outcome.{Outcome}
-use Rattle.dcr_journal.specs.declared.call.Outcome.TheVariants.{Done}
-use Rattle.dcr_cell.specs.Keeping.{IsToldAs, as_found}
-use Rattle.dcr_cell.proofs.StoreLemmas.{stands_as_found, stands_as_told}
+use Rattle.std.proofs.Common.{◌≡◌, true, false, ◌∙◌, sym, refl, ap}
+use Rattle.dcr_cell.specs.Keeping.{as_found, kept_as}
+use Rattle.dcr_cell.proofs.StoreLemmas.{stands_as_found, stands_as_kept}
 use Rattle.dcr_cell.proofs.kept.Kept.tell.Goals as goal
 
-pub returns-clause-kept : goal.returns-clause-kept
-returns-clause-kept g c = λ J entry stands none is_call asked seq is told.
-    let first = g.N.StoreName.first in
-    stands_as_told g.D.Disk.view g.D.Disk.faults first g.N.ClusterName.cluster J entry c.args.self.now.store c.args.call.now c.args.told.now stands none is_call asked seq is c.keep.new.self.store c.in-Done.is
-    (subst (λ (o : Outcome). IsToldAs first o entry.outcome) (sym c.in-Done.is) (subst (λ (o : Outcome). IsToldAs first Done o) (sym told) (c.keep.ensures.told J stands.stored)))
-    (c.keep.ensures.kept J entry stands.stored none (asked ∙ c.in-Exec.is) told)
+pub returns-then-not-keep-clause-kept : goal.returns-then-not-keep-clause-kept
+returns-then-not-keep-clause-kept g c = λ J entry stands none is_call asked seq is told.
+    let failed : c.keep.result ≡ false = cc in
+    let as_kept = told ∙ c.tell_fault.ensures ∙ ap kept_as (sym failed) in
+    stands_as_kept g.D.Disk.view g.D.Disk.faults g.N.StoreName.first g.N.ClusterName.cluster J entry c.args.self.now.store c.args.call.now c.args.told.now stands none is_call asked seq is
+    c.keep.new.self.store c.keep.result c.in-Done.is (c.keep.ensures.told J stands.stored) as_kept (c.keep.ensures.kept J entry stands.stored none (asked ∙ c.in-Exec.is) as_kept)
+
+pub returns-else-not-keep-clause-kept : goal.returns-else-not-keep-clause-kept
+returns-else-not-keep-clause-kept g c = λ J entry stands none is_call asked seq is told.
+    let kept : c.keep.result ≡ true = cc in
+    let as_kept = told ∙ c.in-Done.is ∙ ap kept_as (sym kept) in
+    stands_as_kept g.D.Disk.view g.D.Disk.faults g.N.StoreName.first g.N.ClusterName.cluster J entry c.args.self.now.store c.args.call.now c.args.told.now stands none is_call asked seq is
+    c.keep.new.self.store c.keep.result c.in-Done.is (c.keep.ensures.told J stands.stored) as_kept (c.keep.ensures.kept J entry stands.stored none (asked ∙ c.in-Exec.is) as_kept)
 
 pub returns-in_default-told : goal.returns-in_default-told
 returns-in_default-told g c = record {

@@ -1,4 +1,4 @@
-use Rattle.std.proofs.Common.{◌≡◌, inl, true, List, length, ◌<◌, ◌≤◌, ◌+◌, sym, ap, ◌∙◌, subst, arith}
+use Rattle.std.proofs.Common.{◌≡◌, inl, true, List, length, map, ◌<◌, ◌+◌, sym, ap, ◌∙◌, subst, arith}
 use Rattle.dcr_set.specs.EventSet.{has}
 use Rattle.dcr_site.specs.Seen.{Seen, StandsAt}
 use Rattle.dcr_turn.specs.FrontValue.{FrontValue}
@@ -7,22 +7,16 @@ use Rattle.dcr_cell.specs.CellStands.{CellStands}
 use Rattle.dcr_cell.specs.declared.cell.Cell.{Cell}
 use Rattle.dcr_cell.proofs.CellLemmas.{cell_hears}
 use Rattle.dcr_cluster.specs.Calls.{ending, seeing}
-use Rattle.dcr_cluster.proofs.EnterLemmas.{with_last, one_fewer}
-use Rattle.dcr_cluster.proofs.GatherLemmas.{all_asked, first_within, rest_within, first_there, still_left, not_empty, came_back, is_participant, left_as_is, stepped_on, made_without}
+use Rattle.dcr_cluster.proofs.GatherLemmas.{all_asked, first_within, rest_within, first_there, still_left, comes_back, came_back, is_participant, left_as_is, stepped_on, made_without}
 use Rattle.dcr_cluster.proofs.cluster.Cluster.+gather.Goals.{in-Some-done_by, in_default-done_by}
 use Rattle.dcr_cluster.proofs.cluster.Cluster.+gather.Goals as goal
 
 pub commit-requires : goal.commit-requires
-commit-requires g t c = (
-  omega arith,
-  (
-    c.requires.call,
-    (
-      omega (arith, c.requires.few),
-      (inl (all_asked (sites_of c.args.fronts.now) c.args.left.now (sites_for g.N.ClusterName.cluster g.N.TurnName.turn c.args.call.now) c.in_default.ensures.cases c.requires.sites), c.requires.found),
-    ),
-  ),
-)
+commit-requires g t c = record {
+  call = c.requires.call;
+  enough = inl (all_asked (sites_of c.args.fronts.now) c.args.left.now (sites_for g.N.ClusterName.cluster g.N.TurnName.turn c.args.call.now) c.in_default.ensures.cases c.requires.sites);
+  found = c.requires.found;
+}
 
 pub ask-requires-clause-site : goal.ask-requires-clause-site
 ask-requires-clause-site g t c =
@@ -36,8 +30,6 @@ gather-ended-requires g t c κs within =
     let at : c.split-grip.result.1.front.site ≡ c.in-Some.first.now =
     ap (λ (x : Cell g.row.N.Denot). x.front.site) c.split-grip.ensures.value ∙ c.lock.ensures.belongs.at ∙ c.first.view_is in
     let fewer : length c.in-Some.rest.now + 1 ≡ length c.args.left.now = c.in-Some.ensures.cases.1 in
-    let more : length c.push.new.self ≡ length c.args.fronts.now + 1 = one_fewer c.push.new.self c.args.fronts.now c.split-grip.result.1.front c.push.ensures in
-    let few : length c.args.fronts.now + length c.args.left.now ≤ 64 = c.requires.few in
     let measure : length c.args.left.now ≡ t = c.decreases in (
       (let lower : length c.in-Some.rest.now < t = omega arith in lower),
       (
@@ -49,19 +41,13 @@ gather-ended-requires g t c κs within =
             (
               within.1.1.1,
               (
-                omega arith,
+                c.requires.call,
                 (
-                  c.requires.call,
+                  still_left c.args.fronts.now c.put_on.new.row c.split-grip.result.1.front c.in-Some.first.now c.args.left.now c.in-Some.rest.now
+                      (sites_for g.N.ClusterName.cluster g.N.TurnName.turn c.args.call.now) c.put_on.ensures at c.in-Some.ensures.cases.0 c.requires.sites,
                   (
-                    still_left c.args.fronts.now c.push.new.self c.split-grip.result.1.front c.in-Some.first.now c.args.left.now c.in-Some.rest.now
-                        (sites_for g.N.ClusterName.cluster g.N.TurnName.turn c.args.call.now) c.push.ensures at c.in-Some.ensures.cases.0 c.requires.sites,
-                    (
-                      rest_within (length g.N.ClusterName.cluster.owned) c.in-Some.first.now c.args.left.now c.in-Some.rest.now c.requires.within c.in-Some.ensures.cases.0,
-                      (
-                        omega arith,
-                        subst (λ (fronts : List FrontValue). Found g.N.ClusterName.cluster c.args.call.now fronts c.ask.new.found) (sym c.push.ensures) (c.ask.ensures c.args.fronts.now c.requires.found),
-                      ),
-                    ),
+                    rest_within (length g.N.ClusterName.cluster.owned) c.in-Some.first.now c.args.left.now c.in-Some.rest.now c.requires.within c.in-Some.ensures.cases.0,
+                    subst (λ (fronts : List FrontValue). Found g.N.ClusterName.cluster c.args.call.now fronts c.ask.new.found) (sym c.put_on.ensures) (c.ask.ensures c.args.fronts.now c.requires.found),
                   ),
                 ),
               ),
@@ -71,10 +57,14 @@ gather-ended-requires g t c κs within =
       ),
     )
 
-pub unreachable-requires : goal.unreachable-requires
-unreachable-requires g t c =
-    not_empty c.push.new.self c.args.fronts.now c.gather-ended.new.fronts c.split-grip.result.1.front c.gather-ended.new.pass.front c.push.ensures
-    c.gather-ended.ensures.returned.fronts c.in_default-pop.ensures.value
+pub take_off-front-requires : goal.take_off-front-requires
+take_off-front-requires g t c =
+    let at : c.split-grip.result.1.front.site ≡ c.first.inside.0 =
+    ap (λ (x : Cell g.row.N.Denot). x.front.site) c.split-grip.ensures.value ∙ c.lock.ensures.belongs.at in (
+      map (seeing c.gather-ended.new.pass.front) c.args.fronts.now,
+      comes_back c.put_on.new.row c.args.fronts.now c.gather-ended.new.fronts c.split-grip.result.1.front c.first.inside.0 c.gather-ended.new.pass.front c.put_on.ensures at
+          c.gather-ended.ensures.returned.fronts,
+    )
 
 pub apply-requires : goal.apply-requires
 apply-requires g t c =
@@ -94,21 +84,21 @@ unlock-requires g t c =
     (subst (λ (x : Cell g.row.N.Denot). CellStands g.N.ClusterName.cluster c.first.inside.0 x.site.value x.front) (sym c.split-grip.ensures.value) c.lock.ensures.belongs) in
     let known : c.in-Some.first.now < length g.N.ClusterName.cluster.owned =
     first_within (length g.N.ClusterName.cluster.owned) c.in-Some.first.now c.args.left.now c.in-Some.rest.now c.requires.within c.in-Some.ensures.cases.0 in
-    let again : c.in-Some-pop.front ≡ seeing c.gather-ended.new.pass.front c.split-grip.result.1.front =
-    (came_back c.push.new.self c.args.fronts.now c.gather-ended.new.fronts c.pop.new.self c.split-grip.result.1.front c.in-Some-pop.front c.gather-ended.new.pass.front c.push.ensures
-    c.gather-ended.ensures.returned.fronts (with_last c.gather-ended.new.fronts c.pop.new.self c.in-Some-pop.front c.in-Some-pop.ensures.value c.in-Some-pop.ensures.rest)).1 in
+    let again : c.take_off-front.result ≡ seeing c.gather-ended.new.pass.front c.split-grip.result.1.front =
+    (came_back c.put_on.new.row c.args.fronts.now c.gather-ended.new.fronts c.take_off-front.new.row c.split-grip.result.1.front c.take_off-front.result c.gather-ended.new.pass.front c.put_on.ensures
+    c.gather-ended.ensures.returned.fronts c.take_off-front.ensures.rest).1 in
     let back : CellStands g.N.ClusterName.cluster c.in-Some.first.now c.match-done_by.site.value (seeing c.gather-ended.new.pass.front c.split-grip.result.1.front) = elim c.match-done_by.branch [
       | in-Some-done_by w ↦
           subst (λ (site : _). CellStands g.N.ClusterName.cluster c.in-Some.first.now site.value (seeing c.gather-ended.new.pass.front c.split-grip.result.1.front)) (sym w.site-is)
           (stepped_on g.N.ClusterName.cluster g.N.StoreName.first g.N.TurnName.capacity g.N.TurnName.turn c.in-Some.first.now w.in-Some-done_by.e c.split-grip.result.1.site.value w.apply.new.self
-          c.split-grip.result.1.front c.push.new.self c.args.fronts.now c.gather-ended.new.fronts c.args.pass.now c.gather-ended.new.pass c.args.call.now (ending c.gather-ended.new.found c.gather-ended.result)
-          c.self.invariant.0.named known stands c.push.ensures c.gather-ended.ensures (sym c.done_by.ensures ∙ w.in-Some-done_by.is)
+          c.split-grip.result.1.front c.put_on.new.row c.args.fronts.now c.gather-ended.new.fronts c.args.pass.now c.gather-ended.new.pass c.args.call.now (ending c.gather-ended.new.found c.gather-ended.result)
+          c.self.invariant.0.named known stands c.put_on.ensures c.gather-ended.ensures (sym c.done_by.ensures ∙ w.in-Some-done_by.is)
           (λ G S M at. w.apply.ensures.stepped G S M (subst (StandsAt G S M) (sym w.deref_mut.ensures.value) at)))
       | in_default-done_by w ↦
           subst (λ (site : _). CellStands g.N.ClusterName.cluster c.in-Some.first.now site.value (seeing c.gather-ended.new.pass.front c.split-grip.result.1.front)) (sym w.site-is)
           (left_as_is g.N.ClusterName.cluster g.N.StoreName.first g.N.TurnName.capacity g.N.TurnName.turn c.in-Some.first.now c.split-grip.result.1.site.value
-          c.split-grip.result.1.front c.push.new.self c.args.fronts.now c.gather-ended.new.fronts c.args.pass.now c.gather-ended.new.pass c.args.call.now (ending c.gather-ended.new.found c.gather-ended.result)
-          c.self.invariant.0.named known stands c.push.ensures c.gather-ended.ensures (sym c.done_by.ensures ∙ w.in_default-done_by.is))
+          c.split-grip.result.1.front c.put_on.new.row c.args.fronts.now c.gather-ended.new.fronts c.args.pass.now c.gather-ended.new.pass c.args.call.now (ending c.gather-ended.new.found c.gather-ended.result)
+          c.self.invariant.0.named known stands c.put_on.ensures c.gather-ended.ensures (sym c.done_by.ensures ∙ w.in_default-done_by.is))
     ] in
     let place : c.join.result.place ≡ c.in-Some.first.now = c.join.ensures.place ∙ c.split-grip.ensures.place ∙ c.lock.ensures.place ∙ c.first.view_is in
     subst (λ i. CellStands g.N.ClusterName.cluster i c.join.result.value.site.value c.join.result.value.front) (sym place)
@@ -117,8 +107,8 @@ unlock-requires g t c =
 
 pub returns : goal.returns
 returns g t c =
-    made_without g.N.ClusterName.cluster g.N.StoreName.first g.N.TurnName.capacity g.N.TurnName.turn c.args.pass.now c.gather-ended.new.pass c.push.new.self c.args.fronts.now
-    c.gather-ended.new.fronts c.pop.new.self c.split-grip.result.1.front c.args.call.now (ending c.gather-ended.new.found c.gather-ended.result) c.push.ensures
-    (came_back c.push.new.self c.args.fronts.now c.gather-ended.new.fronts c.pop.new.self c.split-grip.result.1.front c.in-Some-pop.front c.gather-ended.new.pass.front c.push.ensures
-    c.gather-ended.ensures.returned.fronts (with_last c.gather-ended.new.fronts c.pop.new.self c.in-Some-pop.front c.in-Some-pop.ensures.value c.in-Some-pop.ensures.rest)).0
+    made_without g.N.ClusterName.cluster g.N.StoreName.first g.N.TurnName.capacity g.N.TurnName.turn c.args.pass.now c.gather-ended.new.pass c.put_on.new.row c.args.fronts.now
+    c.gather-ended.new.fronts c.take_off-front.new.row c.split-grip.result.1.front c.args.call.now (ending c.gather-ended.new.found c.gather-ended.result) c.put_on.ensures
+    (came_back c.put_on.new.row c.args.fronts.now c.gather-ended.new.fronts c.take_off-front.new.row c.split-grip.result.1.front c.take_off-front.result c.gather-ended.new.pass.front c.put_on.ensures
+    c.gather-ended.ensures.returned.fronts c.take_off-front.ensures.rest).0
     c.gather-ended.ensures

@@ -1,18 +1,23 @@
-use Rattle.std.proofs.Common.{◌++◌, arith}
+use Rattle.std.proofs.Common.{◌++◌, ap, ◌∙◌}
+use Rattle.dcr_turn.specs.GuardValue.{GuardValue}
 use Rattle.dcr_cell.specs.Asking.{sites_of}
+use Rattle.dcr_cell.specs.declared.kept.Kept.{Kept}
 use Rattle.dcr_cluster.specs.Calls.{ending}
 use Rattle.dcr_cluster.specs.Entering.{MayEnter}
 use Rattle.dcr_cluster.proofs.CommitLemmas.{ready_met, still_stands, entered_is_made}
 use Rattle.dcr_cluster.proofs.cluster.Cluster.commit.Goals as goal
 
-pub enter-ended-requires : goal.enter-ended-requires
-enter-ended-requires g c =
+pub enter-ended-requires-clause-none : goal.enter-ended-requires-clause-none
+enter-ended-requires-clause-none g c = ap (λ (guard : GuardValue (Kept g.row.D.Denot g.row.N.Denot)). guard.enlisted) c.meet.ensures.same ∙ c.lock-guard.ensures.enlisted
+
+pub enter-ended-requires-clause-ready : goal.enter-ended-requires-clause-ready
+enter-ended-requires-clause-ready g c =
     let ready : MayEnter g.D.Disk.view g.D.Disk.faults g.N.ClusterName.cluster g.N.StoreName.first g.N.TurnName.capacity g.N.TurnName.turn c.meet.new.self c.meet.new.pass c.args.call.now c.args.found.now
     (sites_of c.args.fronts.now ++ c.meet.new.self.enlisted) =
     ready_met g.D.Disk.view g.D.Disk.faults g.N.ClusterName.cluster g.N.StoreName.first g.N.TurnName.capacity g.N.TurnName.turn c.lock-guard.result c.meet.new.self c.args.pass.now
     c.meet.new.pass c.args.fronts.now c.args.call.now c.args.found.now c.self.invariant.0.named c.self.invariant.0.most_entries c.requires.call c.meet.ensures.same c.lock-guard.ensures.enlisted
     c.lock-guard.ensures.kept c.meet.ensures.session c.meet.ensures.front c.meet.ensures.made c.meet.ensures.seen c.requires.enough c.requires.found in
-    (omega arith, (c.requires.few, ready))
+    ready
 
 pub unlock-requires-clause-kept : goal.unlock-requires-clause-kept
 unlock-requires-clause-kept g c =

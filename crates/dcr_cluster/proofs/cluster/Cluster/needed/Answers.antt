@@ -1,6 +1,6 @@
 use Rattle.std.proofs.Common.{◌≡◌, ◌∷◌, [], length, ap, ◌∙◌, arith}
 use Rattle.std.specs.Prelude.{slice_index_or}
-use Rattle.dcr_cluster.proofs.NeededLemmas.{event_within, all_count, participants_within, participants_few, all_within, all_few, one_within, one_is, one_site, one_all}
+use Rattle.dcr_cluster.proofs.NeededLemmas.{event_within, all_count, participants_within, all_within, one_within, one_is, one_site, one_all}
 use Rattle.dcr_cluster.proofs.cluster.Cluster.needed.Goals as goal
 
 pub participants-requires : goal.participants-requires
@@ -11,17 +11,9 @@ pub returns-then-contains-clause-within : goal.returns-then-contains-clause-with
 returns-then-contains-clause-within g c =
     participants_within g.N.ClusterName.cluster g.N.TurnName.turn c.self.inside.network c.participants.result.now c.in-Exec.e c.self.invariant.0.named c.self.invariant.0.alphabets c.participants.ensures.participants
 
-pub returns-then-contains-clause-few : goal.returns-then-contains-clause-few
-returns-then-contains-clause-few g c =
-    participants_few g.N.ClusterName.cluster g.N.TurnName.turn c.self.inside.network c.participants.result.now c.in-Exec.e c.self.invariant.0.named c.self.invariant.0.alphabets c.participants.ensures.participants
-
 pub returns-in-Accepting-clause-within : goal.returns-in-Accepting-clause-within
 returns-in-Accepting-clause-within g c =
     all_within (length g.N.ClusterName.cluster.owned) c.as_slice.result.now (c.as_slice.ensures.value ∙ c.self.invariant.0.every_site)
-
-pub returns-in-Accepting-clause-few : goal.returns-in-Accepting-clause-few
-returns-in-Accepting-clause-few g c =
-    all_few (length g.N.ClusterName.cluster.owned) c.as_slice.result.now (c.as_slice.ensures.value ∙ c.self.invariant.0.every_site) c.self.invariant.0.named.most_sites
 
 pub index-requires-in-Look : goal.index-requires-in-Look
 index-requires-in-Look g c =

@@ -4,7 +4,7 @@ use Rattle.dcr_journal.specs.declared.call.Entry.{Entry}
 use Rattle.dcr_turn.specs.DeskValue.{DeskValue}
 use Rattle.dcr_turn.specs.PassModel.{seen_in}
 use Rattle.dcr_turn.specs.PassValue.{PassValue}
-use Rattle.dcr_turn.specs.Pushing.{AllHear, ends_in_fault}
+use Rattle.dcr_turn.specs.Pushing.{AllHear, ends_in_fault, is_fault}
 use Rattle.dcr_turn.specs.Records.{knowing, sites_in, all_know}
 use Rattle.dcr_turn.specs.declared.record.Holder.TheVariants.{Session}
 use Rattle.dcr_turn.specs.declared.record.Record.{Record}
@@ -21,9 +21,10 @@ publish-requires-clause-concerned g c =
     let r = knowing F (Session c.pass.inside.session) in
     let one = one_view c.out_of.result (r ∷ []) (sym c.out_of.ensures ∙ c.pass.invariant.views) in
     let came = joined_is H H L r r c.self.inside.records c.out_of.result c.join.new.self c.self.invariant.records one c.join.ensures in
-    let hear : AllHear g.N.TurnName.turn.alphabets L c.args.call c.args.outcome =
-    subst (λ (d : DeskValue). AllHear g.N.TurnName.turn.alphabets d.enlisted c.args.call c.args.outcome) (sym c.self.view_is) c.requires.hear in
-    rw came (all_here g.N.TurnName.turn.alphabets g.N.TurnName.turn.sessions H F L c.pass.inside.session c.pass.inside.made c.args.call c.args.outcome hear)
+    let hear : AllHear g.N.TurnName.turn.alphabets L c.args.call c.copy.result =
+    subst (AllHear g.N.TurnName.turn.alphabets L c.args.call) (sym c.copy.ensures)
+    (subst (λ (d : DeskValue). AllHear g.N.TurnName.turn.alphabets d.enlisted c.args.call c.args.outcome.now) (sym c.self.view_is) c.requires.hear) in
+    rw came (all_here g.N.TurnName.turn.alphabets g.N.TurnName.turn.sessions H F L c.pass.inside.session c.pass.inside.made c.args.call c.copy.result hear)
 
 pub invariant_of-self : goal.invariant_of-self
 invariant_of-self g c =
@@ -31,14 +32,14 @@ invariant_of-self g c =
     let L = sites_in c.self.inside.records in
     let x = Session c.pass.inside.session in
     let r = knowing (seen_in c.pass.inside) x in
-    let e : Entry = record { session = c.pass.inside.session; seq = c.pass.inside.made; call = c.args.call; outcome = c.args.outcome } in
+    let e : Entry = record { session = c.pass.inside.session; seq = c.pass.inside.made; call = c.args.call; outcome = c.copy.result } in
     let one = one_view c.out_of.result (r ∷ []) (sym c.out_of.ensures ∙ c.pass.invariant.views) in
     let came = joined_is H H L r r c.self.inside.records c.out_of.result c.join.new.self c.self.invariant.records one c.join.ensures in
     let told = published_is H H L r r c.join.new.self c.out_of.result c.publish.new.self e came c.publish.ensures in
     let rest = kept_is H (H ++ e ∷ []) L r (knowing (H ++ e ∷ []) x) c.publish.new.self c.out_of.result c.cut.new.self told c.cut.ensures.kept in record {
       records = desk_again c.cut.new.self c.push.new.self.entries L (rest ∙ ap (λ (J : List Entry). all_know J L) (sym c.push.ensures.entries));
       capacity = c.push.ensures.capacity ∙ c.self.invariant.capacity;
-      faulted = c.is_fault_told-faulted.ensures ∙ sym (fault_pushed H e) ∙ ap ends_in_fault (sym c.push.ensures.entries);
+      faulted = c.is_fault_told-faulted.ensures ∙ ap is_fault (sym c.copy.ensures) ∙ sym (fault_pushed H e) ∙ ap ends_in_fault (sym c.push.ensures.entries);
     }
 
 pub invariant_of-pass : goal.invariant_of-pass
@@ -47,7 +48,7 @@ invariant_of-pass g c =
     let L = sites_in c.self.inside.records in
     let x = Session c.pass.inside.session in
     let r = knowing (seen_in c.pass.inside) x in
-    let e : Entry = record { session = c.pass.inside.session; seq = c.pass.inside.made; call = c.args.call; outcome = c.args.outcome } in
+    let e : Entry = record { session = c.pass.inside.session; seq = c.pass.inside.made; call = c.args.call; outcome = c.copy.result } in
     let one = one_view c.out_of.result (r ∷ []) (sym c.out_of.ensures ∙ c.pass.invariant.views) in
     let came = joined_is H H L r r c.self.inside.records c.out_of.result c.join.new.self c.self.invariant.records one c.join.ensures in
     let told = published_is H H L r r c.join.new.self c.out_of.result c.publish.new.self e came c.publish.ensures in
@@ -68,7 +69,7 @@ returns-clause-enlisted g c =
     let L = sites_in c.self.inside.records in
     let x = Session c.pass.inside.session in
     let r = knowing (seen_in c.pass.inside) x in
-    let e : Entry = record { session = c.pass.inside.session; seq = c.pass.inside.made; call = c.args.call; outcome = c.args.outcome } in
+    let e : Entry = record { session = c.pass.inside.session; seq = c.pass.inside.made; call = c.args.call; outcome = c.copy.result } in
     let one = one_view c.out_of.result (r ∷ []) (sym c.out_of.ensures ∙ c.pass.invariant.views) in
     let came = joined_is H H L r r c.self.inside.records c.out_of.result c.join.new.self c.self.invariant.records one c.join.ensures in
     let told = published_is H H L r r c.join.new.self c.out_of.result c.publish.new.self e came c.publish.ensures in
