@@ -3,6 +3,7 @@ use crate::serving::{Asking, assert_served, in_whole, served};
 use dcr_cluster::Halt;
 use dcr_cluster_rows::{HOSPITAL, NO_SESSION};
 use dcr_link::{WorkCause, WorkEnd};
+use std::alloc::Global;
 use std::process::Abort;
 use std::sync::Wait;
 use std::test::Fail;
@@ -148,7 +149,7 @@ fn a_line_has_200_bytes_at_most(rt: HostRuntime) -> Result<(), Fail> {
 // So many empty lines are answered so often, and the session ends for this cause.
 fn assert_many<R: Wait + Abort>(
     rt: &R,
-    alloc: std::alloc::Global,
+    alloc: Global,
     asked: &[u8],
     cause: WorkCause,
     last: &[u8],
@@ -158,8 +159,8 @@ fn assert_many<R: Wait + Abort>(
     let told = taken.as_slice();
     let many = 200_000usize.wrapping_mul(9);
     assert_eq!(rt; told.len(), many.wrapping_add(last.len()));
-    assert!(rt; told.get(..9) == Some(b"bad-line\n".as_slice()));
-    assert!(rt; told.get(many..) == Some(last));
+    assert!(rt; told.starts_with(b"bad-line\n"));
+    assert!(rt; told.ends_with(last));
     Ok(())
 }
 
