@@ -92,8 +92,9 @@ impl Journal {
         }
     }
 
-    // The entry at a place, where it lies.
-    fn kept(&self, place: u32) -> Option<&Entry>
+    /// The entry at a place, from 0, where it lies: nothing is copied. None exactly where the place is not below the
+    /// length.
+    pub fn kept(&self, place: u32) -> Option<&Entry>
         ensures { option_map (λ entry. entry.now) result ≡ slice_get self.now.entries place }
     {
         let block = self.blocks.get((place / PER_BLOCK) as usize)?;

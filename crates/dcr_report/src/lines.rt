@@ -122,8 +122,8 @@ pub(crate) fn pass_entries<O: Sink>(
     ensures never_falls { O.write_faults sink.old ≤ O.write_faults sink.new }
 {
     for place in 0..history.len() {
-        let entry = history.get(place).unwrap();
-        pass_entry(place, &entry, graph, cover, held, sink)?;
+        let entry = history.kept(place).unwrap();
+        pass_entry(place, entry, graph, cover, held, sink)?;
     }
     Ok(())
 }
