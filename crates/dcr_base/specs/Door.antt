@@ -10,6 +10,11 @@ GivesNext (Some before) after (Ok (Some link)) = (rest : List _) × (before ≡ 
 GivesNext (Some before) after (Ok None) = (before ≡ []) × (after ≡ Some [])
 GivesNext (Some before) after (Err failed) = after ≡ Some before
 
+-- no link is left, where they are told
+abbrev pub HasNoneLeft : {L : Type 0} → Option (List L) → Type 0
+HasNoneLeft None = ⊤
+HasNoneLeft (Some left) = left ≡ []
+
 -- a link that is given has counted no fault
 abbrev pub IsFresh : {L : Type 0} → (L → ℕ) → (L → ℕ) → Result (Option L) Failed → Type 0
 IsFresh read_faults write_faults (Ok (Some link)) = (read_faults link ≡ 0) × (write_faults link ≡ 0)

@@ -1,4 +1,4 @@
-ghost use Rattle.std.specs.Prelude.{◌≡◌, ◌≤◌, ◌↔◌, Some, IsErr, OnOk, OnErr};
+ghost use Rattle.std.specs.Prelude.{◌≡◌, ◌≤◌, ◌↔◌, [], Ok, Some, None, IfOk, IsNone, IsErr, OnOk, OnErr};
 ghost use Rattle.std.specs.List.{All};
 ghost use Rattle.dcr_base.specs.Count.{Rose};
 ghost use Rattle.dcr_base.specs.Door.{GivesNext, IsFresh as GivesFresh};
@@ -47,11 +47,13 @@ impl MemDoor {
 }
 
 impl Door for MemDoor {
-    ghost use Rattle.std.specs.Prelude.{Some};
+    ghost use Rattle.std.specs.Prelude.{◌≡◌, [], Some};
 
     type Link = MemLink;
 
     ghost links = { λ door. Some door.links };
+
+    ghost is_shut = { λ door. door.links ≡ [] };
 
     ghost faults = { λ door. door.calls.faults };
 
@@ -60,6 +62,9 @@ impl Door for MemDoor {
     fn next(&mut self) -> Result<Option<MemLink>, Failed>
         ensures given { GivesNext (Some self.old.links) (Some self.new.links) result }
         ensures fresh { GivesFresh (λ link. link.source.calls.faults) (λ link. link.sink.calls.faults) result }
+        ensures shuts { result ≡ Ok None → self.new.links ≡ [] }
+        ensures stays_shut { self.old.links ≡ [] → self.new.links ≡ [] }
+        ensures gives_none { self.old.links ≡ [] → IfOk result IsNone }
         ensures never_falls { self.old.calls.faults ≤ self.new.calls.faults }
         ensures ok_counts_none { OnOk result (self.new.calls.faults ≡ self.old.calls.faults) }
         ensures rose { OnErr result (Rose self.old.calls.faults self.new.calls.faults) }
@@ -72,4 +77,6 @@ impl Door for MemDoor {
         }
         Ok(self.links.pop_front())
     }
+
+    ghost shut_has_none = { λ door shut. shut };
 }

@@ -1,5 +1,5 @@
 -- What is left of items and links that are given away from the first one on.
-use Rattle.std.specs.Prelude.{◌≡◌, ℕ, ◌-◌, ◌≤◌, List, [], length, drop, Option, Some, None, slice_get, ⊤}
+use Rattle.std.specs.Prelude.{◌≡◌, ℕ, ◌-◌, ◌≤◌, List, length, drop, Option, Some, None, slice_get, ⊤}
 use Rattle.std.specs.List.{range_with_len}
 
 -- the numbers from `first` on that are below `end`, in order
@@ -15,8 +15,3 @@ AreAllButFirst (Some all) n left = (n ≤ length all) × (left ≡ Some (drop n 
 abbrev pub HasNumber : {L : Type 0} → Option (List L) → ℕ → L → Type 0
 HasNumber None n link = ⊤
 HasNumber (Some all) n link = slice_get all n ≡ Some link
-
--- no link is left, where they are told
-abbrev pub HasNoneLeft : {L : Type 0} → Option (List L) → Type 0
-HasNoneLeft None = ⊤
-HasNoneLeft (Some left) = left ≡ []

@@ -1,6 +1,6 @@
 ghost use Rattle.std.specs.Prelude.{◌≡◌, ◌≢◌, ◌+◌, ◌<◌, ◌≤◌, ◌↔◌, ◌⊎◌, ◌∷◌, [], None, IsNone, IfSome, IfNone, map};
 ghost use Rattle.dcr_base.specs.Count.{Rose};
-ghost use Rattle.dcr_serve.specs.Left.{numbers_from, AreAllButFirst, HasNumber, HasNoneLeft};
+ghost use Rattle.dcr_serve.specs.Left.{numbers_from, AreAllButFirst, HasNumber};
 ghost use Rattle.dcr_serve.specs.declared.stand.DoorStand.TheVariants.{Open, Shut, Failed as HasFailed};
 
 use crate::asking::AskOnce;
@@ -28,7 +28,7 @@ impl<B: AskOnce, P: Numbered, N: DeskName<B::Link>> Model for Counter<B, P, N> {
 
     ghost view = { desk_of };
 
-    ghost invariant = { IsDesk P.number B.links B.faults N.items N.links N.faults };
+    ghost invariant = { IsDesk P.number B.links B.is_shut B.faults N.items N.links N.faults };
 }
 
 impl<B: AskOnce, P: Numbered, N: DeskName<B::Link>> Counter<B, P, N> {
@@ -112,7 +112,7 @@ impl<B: AskOnce, P: Numbered, N: DeskName<B::Link>> Counter<B, P, N> {
         ensures links { AreAllButFirst N.links share.taken (B.links result.0) }
         ensures never_falls { N.faults ≤ B.faults result.0 }
         ensures unfailed { result.2 ≢ HasFailed → B.faults result.0 ≡ N.faults }
-        ensures shut { result.2 ≡ Shut → HasNoneLeft (B.links result.0) }
+        ensures shut { result.2 ≡ Shut → B.is_shut result.0 }
         ensures failed { result.2 ≡ HasFailed → Rose N.faults (B.faults result.0) }
     {
         let Counter {

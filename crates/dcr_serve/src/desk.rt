@@ -1,6 +1,6 @@
 ghost use Rattle.std.specs.Prelude.{◌≡◌, ◌≢◌, ◌+◌, ◌<◌, ◌≤◌, IfSome, IfNone, map};
 ghost use Rattle.dcr_base.specs.Count.{Rose};
-ghost use Rattle.dcr_serve.specs.Left.{numbers_from, AreAllButFirst, HasNumber, HasNoneLeft};
+ghost use Rattle.dcr_serve.specs.Left.{numbers_from, AreAllButFirst, HasNumber};
 ghost use Rattle.dcr_serve.specs.declared.stand.DoorStand.TheVariants.{Shut, Failed};
 
 use crate::counter::Counter;
@@ -61,7 +61,7 @@ impl<B: Door, P: Numbered, N: DeskName<B::Link>> Desk<B, P, N> {
         ensures links { AreAllButFirst N.links share.taken (B.links result.0) }
         ensures never_falls { N.faults ≤ B.faults result.0 }
         ensures unfailed { result.2 ≢ Failed → B.faults result.0 ≡ N.faults }
-        ensures shut { result.2 ≡ Shut → HasNoneLeft (B.links result.0) }
+        ensures shut { result.2 ≡ Shut → B.is_shut result.0 }
         ensures failed { result.2 ≡ Failed → Rose N.faults (B.faults result.0) }
     {
         self.counter.into_inner().finish(share)

@@ -1,4 +1,4 @@
-ghost use Rattle.std.specs.Prelude.{◌≡◌, ◌≤◌, ◌+◌, None, IfOk, IsSome, OnOk, OnErr};
+ghost use Rattle.std.specs.Prelude.{◌≡◌, ◌≤◌, ◌+◌, Ok, None, IfOk, IsSome, IsNone, OnOk, OnErr};
 ghost use Rattle.std.specs.Io.Iter.{u64_saturate};
 ghost use Rattle.dcr_base.specs.Door.{GivesNext, IsFresh};
 
@@ -79,12 +79,17 @@ impl<R: Net<Listener = TcpListener, Stream = TcpStream>> Door for TcpDoor<R> {
 
     ghost links = { λ _. None };
 
+    ghost is_shut = { λ _. ⊥ };
+
     ghost faults = { failed_calls };
 
     fn next(&mut self) -> Result<Option<TcpLink>, Failed>
         ensures given { GivesNext None None result }
         ensures fresh { IsFresh (λ link. link.faults.failed_reads) (λ link. link.faults.failed_writes) result }
         ensures never_shut { IfOk result IsSome }
+        ensures shuts { result ≡ Ok None → ⊥ }
+        ensures stays_shut { ⊥ → ⊥ }
+        ensures gives_none { ⊥ → IfOk result IsNone }
         ensures port { port_of self.new ≡ port_of self.old }
         ensures never_falls { failed_calls self.old ≤ failed_calls self.new }
 
@@ -100,4 +105,6 @@ impl<R: Net<Listener = TcpListener, Stream = TcpStream>> Door for TcpDoor<R> {
             }
         }
     }
+
+    ghost shut_has_none = { λ door never. absurd never };
 }
