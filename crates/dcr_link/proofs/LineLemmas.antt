@@ -114,7 +114,7 @@ module _ {D : Type 0} (c : ClusterId) (first : Option (Store D)) (capacity : ℕ
 
     -- ---- the reply is sent
 
-    sent_part : (failed : Type 0) (text reply : List ℕ) (n : ℕ) → reply ≡ ended text → failed → IsSent c first capacity sites atoms failed text (take n reply)
+    sent_part : (failed : Type 0) (text reply : List ℕ) (n : ℕ) → reply ≡ ended text → failed → IsSent failed text (take n reply)
     sent_part failed text reply n is fault = record {
       rest = drop n reply;
       part = take-append-drop n reply ∙ is;
@@ -157,7 +157,7 @@ module _ {D : Type 0} (c : ClusterId) (first : Option (Store D)) (capacity : ℕ
     last_said taken now failed line bytes (Err stop) same all front fault = (subst (λ (l : List ℕ). Appends taken now (take stop.written l)) same front, fault)
 
     pub said_last : (taken now : Option (List ℕ)) (failed : Type 0) (text line : List ℕ) (said : Result (Unit {0}) WriteFault) → line ≡ ended text → SaidLast taken now failed line said
-        → (written : List ℕ) × Appends taken now written × IsSent c first capacity sites atoms failed text written
+        → (written : List ℕ) × Appends taken now written × IsSent failed text written
     said_last taken now failed text line (Ok done) is added = (line, added, record { rest = []; part = append-nil line ∙ is; whole = inl refl })
     said_last taken now failed text line (Err fault) is added = (take fault.written line, added.0, sent_part failed text line fault.written is added.1)
 

@@ -1,5 +1,5 @@
 -- Replies to whole lines, and what comes behind the lines that were met.
-use Rattle.std.proofs.Common.{◌≡◌, ℕ, zero, suc, ◌+◌, ◌-◌, ◌<◌, ◌≤◌, Bool, true, false, eqb, cond, List, [], ◌∷◌, ◌++◌, length, take, drop, codes, Some, refl, sym, ap, ◌∙◌, append_assoc, length-append, arith}
+use Rattle.std.proofs.Common.{◌≡◌, ℕ, zero, suc, ◌+◌, ◌-◌, ◌<◌, ◌≤◌, Bool, true, false, eqb, cond, List, [], ◌∷◌, ◌++◌, length, take, codes, Some, refl, sym, ap, ◌∙◌, append_assoc, length-append, arith}
 use Rattle.std.specs.Prelude.{Option, None, filter}
 use Rattle.std.specs.List.{All, take_while, prefix_len, enumerate_from, onto_first}
 use Rattle.std.proofs.lemmas.List.{append-nil}
@@ -141,11 +141,6 @@ length-placed session n [] = refl
 length-placed session n (entry ∷ entries) =
     counted (n, entry) (filter (is_of session) (enumerate_from (n + 1) entries)) (made_by session entries) (eqb entry.session session) (length-placed session (n + 1) entries)
     ∙ sym (sum_by-cons (λ (e : Entry). cond (eqb e.session session) 1 0) entry entries)
-
-pub drop_less : {X : Type 0} (n : ℕ) (xs ys : List X) → n ≤ length xs → drop n (xs ++ ys) ≡ drop n xs ++ ys
-drop_less zero xs ys fits = refl
-drop_less (suc n) [] ys fits = absurd (omega arith)
-drop_less (suc n) (x ∷ xs) ys fits = drop_less n xs ys (omega arith)
 
 -- ---- a line that is too long
 

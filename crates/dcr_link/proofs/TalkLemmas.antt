@@ -2,7 +2,7 @@
 use Rattle.std.proofs.Common.{◌≡◌, ◌≢◌, ◌⊎◌, ℕ, zero, suc, ◌+◌, ◌-◌, ◌<◌, ◌≤◌, true, false, eqb, List, [], ◌∷◌, ◌++◌, length, map, take, drop, codes, Some, refl, sym, ap, subst, ◌∙◌, append_assoc, length-append, arith, inl, inr}
 use Rattle.std.specs.Prelude.{Option, None}
 use Rattle.std.specs.List.{take_while}
-use Rattle.std.proofs.lemmas.List.{append-nil, map-append, length-map, take-append-drop}
+use Rattle.std.proofs.lemmas.List.{append-nil, drop-append-le, length-map, map-append, take-append-drop, take-append-le, take_all}
 use Rattle.std.proofs.lemmas.Bool.{true≢false}
 use Rattle.std.proofs.lemmas.List.Elements.{All-append, All-nil, All-push}
 use Rattle.dcr_text.specs.declared.cutter.Cut.TheVariants.{More, Line, TooLong}
@@ -22,14 +22,10 @@ use Rattle.dcr_link.specs.Replies.{Placed, answers, asked_by, asked_in, call_of,
 use Rattle.dcr_link.specs.Serving.{EndsBy, Served}
 use Rattle.dcr_link.specs.TalkModel.{TalkValue}
 use Rattle.dcr_link.specs.Talking.{CutsNext, Going, HasAnswered, IsAnswered, IsSent}
-use Rattle.dcr_link.proofs.ReplyLemmas.{calls-append, drop_less, long_none, met_behind, placed_next, placed_seen, text-append, walk_append, while-cons, whole_behind, whole_first, whole_none}
-
-take_all_of : {X : Type 0} (xs ys : List X) → take (length xs) (xs ++ ys) ≡ xs
-take_all_of [] ys = refl
-take_all_of {X = X} (x ∷ xs) ys = ap (λ (l : List X). x ∷ l) (take_all_of xs ys)
+use Rattle.dcr_link.proofs.ReplyLemmas.{calls-append, long_none, met_behind, placed_next, placed_seen, text-append, walk_append, while-cons, whole_behind, whole_first, whole_none}
 
 take_length : {X : Type 0} (xs ys : List X) (n : ℕ) → length xs ≡ n → take n (xs ++ ys) ≡ xs
-take_length xs ys n is = ap (λ (k : ℕ). take k (xs ++ ys)) (sym is) ∙ take_all_of xs ys
+take_length xs ys n is = take-append-le n xs ys (omega (arith, is)) ∙ take_all n xs (omega (arith, is))
 
 take_nil : (n : ℕ) → take {A = List ℕ} n [] ≡ []
 take_nil zero = refl
@@ -94,7 +90,7 @@ module _ {D : Type 0} (c : ClusterId) (first : Option (Store D)) (capacity : ℕ
         ∙ ap (λ (s : ℕ). placed_of s (J ++ entry_of pass call outcome ∷ [])) (sym same)
         ∙ placed_next pass J call outcome answered.seen
         ∙ ap (λ (s : ℕ). placed_of s pass.front ++ (length J, entry_of pass call outcome) ∷ []) same in
-        (grown, ap (drop before.made) grown ∙ drop_less before.made (placed_of before.session pass.front) ((length J, entry_of pass call outcome) ∷ []) fewer)
+        (grown, ap (drop before.made) grown ∙ drop-append-le before.made (placed_of before.session pass.front) ((length J, entry_of pass call outcome) ∷ []) fewer)
 
     -- a call that halted adds none
     made_same : (halt : Halt) → HaltedAfter c first capacity after.front pass after halt → made_since before after ≡ made_since before pass
@@ -314,7 +310,7 @@ module _ {D : Type 0} (c : ClusterId) (first : Option (Store D)) (capacity : ℕ
 
       -- all replies so far were written, and these last words
       module _ (failed : Type 0) (cause : WorkCause) (text sent : List ℕ) (last : last_words cause ≡ text ∷ []) (none : answers sites atoms asked_behind [] ≡ [])
-          (is_sent : IsSent c first capacity sites atoms failed text sent) where
+          (is_sent : IsSent failed text sent) where
         all_said : replies sites atoms (came ++ more) (made_since before after) cause ≡ (written ++ sent) ++ is_sent.rest
         all_said =
             replies_are cause
@@ -355,7 +351,7 @@ module _ {D : Type 0} (c : ClusterId) (first : Option (Store D)) (capacity : ℕ
   -- the line has too many bytes
   pub ends_long : (before pass : PassValue) (talk next : TalkValue) (piece came written sent : List ℕ) (used : ℕ) (failed : Type 0)
       → Going c first capacity sites atoms before pass talk came written → talk.lines < most_lines → CutsNext talk piece used TooLong next
-      → IsSent c first capacity sites atoms failed (codes "long-line") sent
+      → IsSent failed (codes "long-line") sent
       → (more : List ℕ) → Served first capacity sites atoms (came ++ (piece ++ more)) before pass (written ++ sent) failed (record { calls = length (made_since before pass); cause = LongLine })
   ends_long before pass talk next piece came written sent used failed going spare cut is_sent more = elim cut.cuts [
     | inl finds ↦ (
@@ -388,7 +384,7 @@ module _ {D : Type 0} (c : ClusterId) (first : Option (Store D)) (capacity : ℕ
 
   -- no line more may be answered
   pub ends_many : (before pass : PassValue) (talk : TalkValue) (piece came written sent : List ℕ) (failed : Type 0)
-      → Going c first capacity sites atoms before pass talk came written → talk.lines ≡ most_lines → piece ≢ [] → IsSent c first capacity sites atoms failed (codes "many-lines") sent
+      → Going c first capacity sites atoms before pass talk came written → talk.lines ≡ most_lines → piece ≢ [] → IsSent failed (codes "many-lines") sent
       → (more : List ℕ) → Served first capacity sites atoms (came ++ (piece ++ more)) before pass (written ++ sent) failed (record { calls = length (made_since before pass); cause = ManyLines })
   ends_many before pass talk piece came written sent failed going most some is_sent more =
       let is_met : lines_met (came ++ (piece ++ more)) ≡ going.lines =
@@ -460,7 +456,7 @@ module _ {D : Type 0} (c : ClusterId) (first : Option (Store D)) (capacity : ℕ
   -- the call of the line halted
   ends_halt : (before pass after : PassValue) (talk next : TalkValue) (piece came written sent : List ℕ) (used : ℕ) (failed : Type 0) (call : Call) (halt : Halt)
       → (going : Going c first capacity sites atoms before pass talk came written) → (cut : CutsNext talk piece used Line next) → (spare : talk.lines < most_lines)
-      → asked_by sites atoms next.cutter.bytes ≡ Some call → HaltedAfter c first capacity after.front pass after halt → IsSent c first capacity sites atoms failed (halt_text halt) sent → (more : List ℕ)
+      → asked_by sites atoms next.cutter.bytes ≡ Some call → HaltedAfter c first capacity after.front pass after halt → IsSent failed (halt_text halt) sent → (more : List ℕ)
       → Served first capacity sites atoms (came ++ (piece ++ more)) before after (written ++ sent) failed (record { calls = length (made_since before after); cause = Halted halt })
   ends_halt before pass after talk next piece came written sent used failed call halt going cut spare is_call halted is_sent more =
       let cuts : CutsLine talk.cutter piece used next.cutter = cut.cuts in

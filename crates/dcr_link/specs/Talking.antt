@@ -49,6 +49,12 @@ HasLaid sites atoms pass call (Err halt) reply (Ok None) = ⊥
 HasLaid sites atoms pass call (Err halt) reply (Ok (Some told)) = told ≡ halt
 HasLaid sites atoms pass call (Err halt) reply (Err no_room) = ⊥
 
+-- this is a beginning of the text with its line end; all of it, or a write has failed
+pub record IsSent (failed : Type 0) (text written : List ℕ) : Type 0 where
+  pub rest : List ℕ
+  pub part : written ++ rest ≡ ended text
+  pub whole : (rest ≡ []) ⊎ failed
+
 module _ {D : Type 0} (c : ClusterId) (first : Option (Store D)) (capacity : ℕ) (sites atoms : List (List ℕ)) where
   -- What a line asks for was answered by this text: a call by that of its entry, which the pass made.
   abbrev pub IsAnswered : Option Call → PassValue → PassValue → List ℕ → Type 0
@@ -66,12 +72,6 @@ module _ {D : Type 0} (c : ClusterId) (first : Option (Store D)) (capacity : ℕ
   HasReply asked before after reply (Ok None) = (text : List ℕ) × IsAnswered asked before after text × (reply ≡ ended text)
   HasReply asked before after reply (Ok (Some halt)) = IsHalted asked before after halt
   HasReply asked before after reply (Err no_room) = (text : List ℕ) × IsAnswered asked before after text
-
-  -- this is a beginning of the text with its line end; all of it, or a write has failed
-  pub record IsSent (failed : Type 0) (text written : List ℕ) : Type 0 where
-    pub rest : List ℕ
-    pub part : written ++ rest ≡ ended text
-    pub whole : (rest ≡ []) ⊎ failed
 
   -- a line was answered, or the session has ended with it
   abbrev pub HasAnswered : Option Call → PassValue → PassValue → List ℕ → Type 0 → Option WorkCause → Type 0

@@ -1,8 +1,6 @@
-ghost use Rattle.std.specs.Prelude.{◌≡◌, ◌+◌, ◌≤◌, length, IsSome};
+ghost use Rattle.std.specs.Prelude.{◌≡◌, ◌+◌, ◌≤◌, IsSome};
 ghost use Rattle.dcr_graph.specs.GraphValue.{rules_of};
-ghost use Rattle.dcr_journal.specs.Run.{made_by};
 ghost use Rattle.dcr_cluster.specs.Calls.{Shows};
-ghost use Rattle.dcr_link.specs.Replies.{made_since};
 ghost use Rattle.dcr_link.specs.Serving.{AnyRose, Serves};
 ghost use Rattle.dcr_link.specs.declared.end.WorkCause.TheVariants.{Ended, LinkFault, Halted};
 
@@ -56,42 +54,15 @@ pub fn serve_session<D: Disk, G: Gate, N: StoreName<D>, L: Link, R: Wait>(
     let made = pass.made();
     // A cover has as many sets as names.
     cover.sites();
-    let cause = hold(rt, alloc, cluster, pass, graph, cover, link);
+    let Ok(mut talk) = Talk::new(alloc, graph, cover) else {
+        return WorkEnd {
+            calls: 0,
+            cause: WorkCause::NoMemory,
+        };
+    };
+    let cause = talk.hold(rt, cluster, pass, link);
     WorkEnd {
         calls: pass.made() - made,
         cause,
     }
-}
-
-// Takes the memory of a session, and holds it until it ends.
-fn hold<D: Disk, G: Gate, N: StoreName<D>, L: Link, R: Wait>(
-    rt: &R,
-    alloc: Global,
-    cluster: &Cluster<D, G, N>,
-    pass: &mut Pass<N>,
-    graph: &Graph,
-    cover: &Cover,
-    link: &mut L,
-) -> WorkCause
-    requires graph { rules_of graph.now ≡ N.cluster.rules }
-    requires sites { length cover.now.names ≡ length N.cluster.owned }
-    requires counted { pass.old.made ≡ made_by pass.old.session pass.old.front }
-    ensures session { pass.new.session ≡ pass.old.session }
-    ensures no_fewer { pass.old.made ≤ pass.new.made }
-    ensures serves { Serves N.first N.capacity cover.now.names graph.now.names pass.old pass.new
-        (L.left link.old) (L.taken link.old) (L.taken link.new)
-        (AnyRose (L.read_faults link.old) (L.read_faults link.new) (L.write_faults link.old) (L.write_faults link.new))
-        (record { calls = length (made_since pass.old pass.new); cause = result }) }
-    ensures ended { result ≡ Ended → L.has_ended link.new }
-    ensures fault { result ≡ LinkFault
-        → AnyRose (L.read_faults link.old) (L.read_faults link.new) (L.write_faults link.old) (L.write_faults link.new) }
-    ensures halted { (halt : _) → result ≡ Halted halt → Shows N.first N.capacity pass.new.front halt }
-    ensures told { IsSome (L.left link.old) → IsSome (L.left link.new) }
-    ensures reads_never_fall { L.read_faults link.old ≤ L.read_faults link.new }
-    ensures writes_never_fall { L.write_faults link.old ≤ L.write_faults link.new }
-{
-    let Ok(mut talk) = Talk::new(alloc, graph, cover) else {
-        return WorkCause::NoMemory;
-    };
-    talk.hold(rt, cluster, pass, link)
 }
