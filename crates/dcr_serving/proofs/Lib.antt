@@ -1,0 +1,4 @@
+pub mod PlacingLemmas
+pub mod ServingLemmas
+pub mod GatherLemmas
+pub mod DeskLemmas

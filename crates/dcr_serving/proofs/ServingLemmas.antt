@@ -1,0 +1,240 @@
+-- One session more that was served, and one that was not.
+use Rattle.std.proofs.Common.{◌≡◌, ◌≢◌, ℕ, ◌+◌, ◌-◌, ◌<◌, ◌≤◌, List, [], ◌∷◌, ◌++◌, length, map, drop, reverse, refl, sym, ap, subst, ◌∙◌, append_assoc, arith, ◌⊎◌, inl, inr}
+use Rattle.std.specs.Prelude.{Option, Some, Ok}
+use Rattle.std.specs.List.{All, range_with_len}
+use Rattle.std.proofs.lemmas.List.{append-nil, drop-append-le, drop_all, length-append, length-map, map-append, map-id, reverse-append}
+use Rattle.std.proofs.lemmas.List.Elements.{All-map, All-nil, All-push}
+use Rattle.std.proofs.lemmas.List.FromFn.{length-map-range_with_len, map-range_with_len_more}
+use Rattle.dcr_base.specs.Door.{GivesNext}
+use Rattle.dcr_tape.specs.declared.tape.Store.{Store}
+use Rattle.dcr_turn.specs.PassValue.{PassValue, new_passes}
+use Rattle.dcr_serve.specs.Left.{numbers_from, HasNumber}
+use Rattle.dcr_serve.specs.declared.stand.DoorStand.{DoorStand}
+use Rattle.dcr_serve.specs.declared.stand.DoorStand.TheVariants.{Open, Shut, Failed}
+use Rattle.dcr_serve.proofs.Giving.{first_is_next, gives_its_number}
+use Rattle.dcr_link.specs.Serving.{AnyRose, Serves}
+use Rattle.dcr_link.specs.declared.end.WorkEnd.{WorkEnd}
+use Rattle.dcr_serving.specs.Serving.{AreServed, IsServed, IsServedOf, Stands, Tells, new_pass}
+use Rattle.dcr_serving.specs.declared.end.LinkEnd.{LinkEnd}
+use Rattle.dcr_serving.specs.declared.record.Record.{Record}
+use Rattle.std.proofs.lemmas.Simd.{map-map}
+
+new_more : (k : ℕ) → new_passes (k + 1) ≡ new_passes k ++ new_pass k ∷ []
+new_more k = map-range_with_len_more new_pass 0 k k (omega arith)
+
+-- each has done nothing
+pub new_each : (k : ℕ) → All (λ (pass : PassValue). pass ≡ new_pass pass.session) (new_passes k)
+new_each k = All-map (λ (pass : PassValue). pass ≡ new_pass pass.session) new_pass (range_with_len 0 k) (λ i d within. refl)
+
+pub length-new : (k : ℕ) → length (new_passes k) ≡ k
+length-new k = length-map-range_with_len new_pass 0 k
+
+rest_more : (r k : ℕ) → r ≤ k → drop r (new_passes (k + 1)) ≡ drop r (new_passes k) ++ new_pass k ∷ []
+rest_more r k within = ap (drop r) (new_more k) ∙ drop-append-le r (new_passes k) (new_pass k ∷ []) (omega (arith, within, length-new k))
+
+rest_none : (k : ℕ) → drop k (new_passes k) ≡ []
+rest_none k = drop_all k (new_passes k) (omega (arith, length-new k))
+
+pub numbers_new : (k : ℕ) → map (λ (pass : PassValue). pass.session) (new_passes k) ≡ numbers_from 0 k
+numbers_new k = map-map (λ (pass : PassValue). pass.session) new_pass (range_with_len 0 k) ∙ map-id (range_with_len 0 k) ∙ ap (range_with_len 0) (let same : k ≡ k - 0 = omega arith in same)
+
+-- the numbers below n, and n itself
+numbers_more : (n : ℕ) → numbers_from 0 (n + 1) ≡ numbers_from 0 n ++ n ∷ []
+numbers_more n =
+    let longer : n + 1 - 0 ≡ n + 1 = omega arith in
+    let same : n - 0 ≡ n = omega arith in
+    ap (range_with_len 0) longer ∙ sym (map-id (range_with_len 0 (n + 1))) ∙ map-range_with_len_more (λ (k : ℕ). k) 0 n n (omega arith)
+    ∙ ap (λ (l : List ℕ). l ++ n ∷ []) (map-id (range_with_len 0 n)) ∙ ap (λ (k : ℕ). range_with_len 0 k ++ n ∷ []) (sym same)
+
+module _ {D L R : Type 0} (tells : Tells L R) (first : Option (Store D)) (capacity : ℕ) (sites atoms : List (List ℕ)) (links : Option (List L)) where
+  abbrev pub Pair : Type 0
+  Pair = PassValue × LinkEnd L R
+
+  abbrev pub pass_of : Pair → PassValue
+  pass_of one = one.0
+
+  abbrev pub end_of : Pair → LinkEnd L R
+  end_of one = one.1
+
+  abbrev pub Each : Pair → Type 0
+  Each one = IsServedOf tells first capacity sites atoms links one.0 one.1
+
+  -- all of so many were served
+  pub served_all : (served : List Pair) (n : ℕ) → length served ≡ n → map (λ (one : Pair). one.0.session) served ≡ numbers_from 0 n → All Each served
+      → AreServed tells first capacity sites atoms links n (map pass_of served) (map end_of served)
+  served_all served n many in_order each = record {
+    served = served;
+    within = omega (arith, many);
+    in_order = in_order ∙ ap (numbers_from 0) (sym many);
+    each = each;
+    passes = sym (append-nil (map pass_of served)) ∙ ap (λ (l : List PassValue). map pass_of served ++ l) (sym (ap (λ (m : ℕ). drop m (new_passes n)) many ∙ rest_none n));
+    ends = refl;
+  }
+
+  -- the next one was served too
+  pub served_more : (n : ℕ) (passes : List PassValue) (ends : List (LinkEnd L R)) (pass : PassValue) (end : LinkEnd L R) → AreServed tells first capacity sites atoms links n passes ends
+      → length ends ≡ n → pass.session ≡ n → IsServedOf tells first capacity sites atoms links pass end
+      → AreServed tells first capacity sites atoms links (n + 1) (passes ++ pass ∷ []) (ends ++ end ∷ [])
+  served_more n passes ends pass end before all its served =
+      let one : Pair = (pass, end) in
+      let many : length before.served ≡ n = sym (length-map before.served end_of) ∙ ap (λ (l : List (LinkEnd L R)). length l) (sym before.ends) ∙ all in
+      let longer : length (before.served ++ one ∷ []) ≡ n + 1 = length-append before.served (one ∷ []) ∙ omega (arith, many) in
+      let passes_are : passes ≡ map pass_of before.served =
+      before.passes ∙ ap (λ (m : ℕ). map pass_of before.served ++ drop m (new_passes n)) many ∙ ap (λ (l : List PassValue). map pass_of before.served ++ l) (rest_none n) ∙ append-nil (map pass_of before.served) in
+      let after = served_all (before.served ++ one ∷ []) (n + 1) longer
+      (map-append (λ (r : Pair). r.0.session) before.served (one ∷ [])
+      ∙ ap (λ (l : List ℕ). l ++ pass.session ∷ []) (before.in_order ∙ ap (numbers_from 0) many)
+      ∙ ap (λ (k : ℕ). numbers_from 0 n ++ k ∷ []) its
+      ∙ sym (numbers_more n))
+      (All-push Each before.served one before.each served) in
+      subst (λ (l : List (LinkEnd L R)). AreServed tells first capacity sites atoms links (n + 1) (passes ++ pass ∷ []) l)
+      (map-append end_of before.served (one ∷ []) ∙ ap (λ (l : List (LinkEnd L R)). l ++ end ∷ []) (sym before.ends))
+      (subst (λ (l : List PassValue). AreServed tells first capacity sites atoms links (n + 1) l (map end_of (before.served ++ one ∷ [])))
+      (map-append pass_of before.served (one ∷ []) ∙ ap (λ (l : List PassValue). l ++ pass ∷ []) (sym passes_are)) after)
+
+  -- the next one was not served
+  pub served_idle : (n : ℕ) (passes : List PassValue) (ends : List (LinkEnd L R)) (pass : PassValue) → AreServed tells first capacity sites atoms links n passes ends
+      → pass ≡ new_pass n → AreServed tells first capacity sites atoms links (n + 1) (passes ++ pass ∷ []) ends
+  served_idle n passes ends pass before is = record {
+    served = before.served;
+    within = (let within = before.within in omega (arith, within));
+    in_order = before.in_order;
+    each = before.each;
+    passes =
+        ap (λ (l : List PassValue). l ++ pass ∷ []) before.passes
+        ∙ append_assoc (map pass_of before.served) (drop (length before.served) (new_passes n)) (pass ∷ [])
+        ∙ ap (λ (p : PassValue). map pass_of before.served ++ (drop (length before.served) (new_passes n) ++ p ∷ [])) is
+        ∙ ap (λ (l : List PassValue). map pass_of before.served ++ l) (sym (rest_more (length before.served) n before.within));
+    ends = before.ends;
+  }
+
+-- where none was served
+pub served_none : {D L R : Type 0} (tells : Tells L R) (first : Option (Store D)) (capacity : ℕ) (sites atoms : List (List ℕ)) (links : Option (List L)) (n : ℕ) (passes : List PassValue) (ends : List (LinkEnd L R))
+    → passes ≡ new_passes n → ends ≡ [] → AreServed tells first capacity sites atoms links n passes ends
+served_none tells first capacity sites atoms links n passes ends new none = record {
+  served = [];
+  within = omega arith;
+  in_order = refl;
+  each = All-nil (λ one. IsServedOf tells first capacity sites atoms links one.0 one.1);
+  passes = new;
+  ends = none;
+}
+
+-- ---- the door
+
+pub stands_so : {A B : Type 0} (stand : DoorStand) → stand ≢ Failed → (stand ≡ Open → A) → (stand ≡ Shut → B) → A ⊎ B
+stands_so Open fine given shut = inl (given refl)
+stands_so Shut fine given shut = inr (shut refl)
+stands_so Failed fine given shut = absurd (fine refl)
+
+-- it gave a link
+pub stands_given : {B L : Type 0} (its : B → Option (List L)) (is_shut : B → Type 0) (faults : B → ℕ) (links : Option (List L)) (first given : ℕ) (before after : B) (link : L)
+    → Stands its is_shut faults links first given Open before → GivesNext (its before) (its after) (Ok (Some link)) → faults after ≡ faults before
+    → Stands its is_shut faults links first (given + 1) Open after × HasNumber links given link
+stands_given its is_shut faults links first given before after link stood gives same =
+    let step = gives_its_number links (its before) (its after) link given stood.left gives in
+    let none = same ∙ stood.unfailed (λ is. absurd (cc)) in (
+      record {
+        left = step.0;
+        never_falls = omega (arith, none);
+        unfailed = λ _. none;
+        shut = λ is. absurd (cc);
+        failed = λ is. absurd (cc);
+      },
+      step.1,
+    )
+
+-- ---- on the way through the sessions
+
+module _ {D B L R : Type 0} (tells : Tells L R) (first : Option (Store D)) (capacity : ℕ) (sites atoms : List (List ℕ)) (its : B → Option (List L)) (is_shut : B → Type 0) (faults : B → ℕ)
+    (links : Option (List L)) (count : ℕ) where
+  -- so many have had their turn, and while the door is open each had a link
+  pub record Way (passes : List PassValue) (ends : List (LinkEnd L R)) (stand : DoorStand) (door : B) : Type 0 where
+    pub served : AreServed tells first capacity sites atoms links (length passes) passes ends
+    pub stands : Stands its is_shut faults links count (length ends) stand door
+    pub still_open : stand ≡ Open → length ends ≡ length passes
+
+  -- the next one had a link
+  pub way_served : (passes passes_after : List PassValue) (ends ends_after : List (LinkEnd L R)) (stand stand_after : DoorStand) (before after : B) (link : L) (pass : PassValue) (end : LinkEnd L R)
+      → Way passes ends stand before → stand ≡ Open → Stands its is_shut faults links count (length ends + 1) stand_after after × HasNumber links (length ends) link
+      → pass.session ≡ length passes → end.session ≡ pass.session → IsServed tells first capacity sites atoms link pass end.end end.rest
+      → passes_after ≡ passes ++ pass ∷ [] → ends_after ≡ ends ++ end ∷ [] → Way passes_after ends_after stand_after after
+  way_served passes passes_after ends ends_after stand stand_after before after link pass end way is given number session served passes_are ends_are =
+      let all : length ends ≡ length passes = way.still_open is in
+      let longer : length passes_after ≡ length passes + 1 = ap (λ (l : List PassValue). length l) passes_are ∙ length-append passes (pass ∷ []) in
+      let more : length ends_after ≡ length ends + 1 = ap (λ (l : List (LinkEnd L R)). length l) ends_are ∙ length-append ends (end ∷ []) in
+      let over : IsServedOf tells first capacity sites atoms links pass end = record {
+        link = link;
+        number = subst (λ (n : ℕ). HasNumber links n link) (all ∙ sym number) given.1;
+        session = session;
+        served = served;
+      } in
+      let step = served_more tells first capacity sites atoms links (length passes) passes ends pass end way.served all number over in
+      record {
+        served =
+            subst (λ (n : ℕ). AreServed tells first capacity sites atoms links n passes_after ends_after) (sym longer)
+            (subst (λ (l : List PassValue). AreServed tells first capacity sites atoms links (length passes + 1) l ends_after) (sym passes_are)
+            (subst (λ (l : List (LinkEnd L R)). AreServed tells first capacity sites atoms links (length passes + 1) (passes ++ pass ∷ []) l) (sym ends_are) step));
+        stands = subst (λ (n : ℕ). Stands its is_shut faults links count n stand_after after) (sym more) given.0;
+        still_open = λ still. omega (arith, longer, more, all);
+      }
+
+  -- the next one had none
+  pub way_idle : (passes passes_after : List PassValue) (ends : List (LinkEnd L R)) (stand stand_after : DoorStand) (before after : B) (pass : PassValue)
+      → Way passes ends stand before → Stands its is_shut faults links count (length ends) stand_after after → stand_after ≢ Open
+      → pass ≡ new_pass (length passes) → passes_after ≡ passes ++ pass ∷ [] → Way passes_after ends stand_after after
+  way_idle passes passes_after ends stand stand_after before after pass way given not_open new passes_are =
+      let longer : length passes_after ≡ length passes + 1 = ap (λ (l : List PassValue). length l) passes_are ∙ length-append passes (pass ∷ []) in
+      let step = served_idle tells first capacity sites atoms links (length passes) passes ends pass way.served new in
+      record {
+        served =
+            subst (λ (n : ℕ). AreServed tells first capacity sites atoms links n passes_after ends) (sym longer)
+            (subst (λ (l : List PassValue). AreServed tells first capacity sites atoms links (length passes + 1) l ends) (sym passes_are) step);
+        stands = given;
+        still_open = λ still. absurd (not_open still);
+      }
+
+-- the seats that are left, the first one last
+pub next_seat : (left rest : List PassValue) (seat : PassValue) (n total : ℕ) → map (λ (s : PassValue). s.session) (reverse left) ≡ numbers_from n total → left ≡ rest ++ seat ∷ []
+    → (seat.session ≡ n) × (n < total) × (map (λ (s : PassValue). s.session) (reverse rest) ≡ numbers_from (n + 1) total)
+next_seat left rest seat n total numbers is =
+    first_is_next (λ (s : PassValue). s.session) (reverse left) (reverse rest) seat n total numbers (ap (λ (l : List PassValue). reverse l) is ∙ reverse-append rest (seat ∷ []))
+
+-- ---- one session
+
+-- from the first call on of a link that had failed in nothing, as what stays of it tells
+pub serves_from_new : {D : Type 0} (first : Option (Store D)) (capacity : ℕ) (sites atoms : List (List ℕ)) (session : ℕ) (before pass : PassValue) (left taken now_taken sent : Option (List ℕ))
+    (reads reads_after writes writes_after failed_reads failed_writes : ℕ) (end : WorkEnd)
+    → before ≡ new_pass session → pass.session ≡ before.session → sent ≡ now_taken → reads ≡ 0 → writes ≡ 0 → failed_reads ≡ reads_after → failed_writes ≡ writes_after
+    → Serves first capacity sites atoms before pass left taken now_taken (AnyRose reads reads_after writes writes_after) end
+    → Serves first capacity sites atoms (new_pass pass.session) pass left taken sent (AnyRose 0 failed_reads 0 failed_writes) end
+serves_from_new first capacity sites atoms session before pass left taken now_taken sent reads reads_after writes writes_after failed_reads failed_writes end new same sent_is no_reads no_writes reads_are writes_are serves =
+    let its : session ≡ pass.session = sym (ap (λ (p : PassValue). p.session) new) ∙ sym same in
+    subst (λ (s : Option (List ℕ)). Serves first capacity sites atoms (new_pass pass.session) pass left taken s (AnyRose 0 failed_reads 0 failed_writes) end) (sym sent_is)
+    (subst (λ (b : PassValue). Serves first capacity sites atoms b pass left taken now_taken (AnyRose 0 failed_reads 0 failed_writes) end) (new ∙ ap new_pass its)
+    (subst (λ (n : ℕ). Serves first capacity sites atoms before pass left taken now_taken (AnyRose n failed_reads 0 failed_writes) end) no_reads
+    (subst (λ (n : ℕ). Serves first capacity sites atoms before pass left taken now_taken (AnyRose reads failed_reads n failed_writes) end) no_writes
+    (subst (λ (n : ℕ). Serves first capacity sites atoms before pass left taken now_taken (AnyRose reads n writes failed_writes) end) (sym reads_are)
+    (subst (λ (n : ℕ). Serves first capacity sites atoms before pass left taken now_taken (AnyRose reads reads_after writes n) end) (sym writes_are) serves)))))
+
+pub rose_from_none : (reads reads_after writes writes_after failed_reads failed_writes : ℕ) → reads ≡ 0 → writes ≡ 0 → failed_reads ≡ reads_after → failed_writes ≡ writes_after
+    → AnyRose reads reads_after writes writes_after → AnyRose 0 failed_reads 0 failed_writes
+rose_from_none reads reads_after writes writes_after failed_reads failed_writes no_reads no_writes reads_are writes_are rose =
+    subst (λ (n : ℕ). AnyRose n failed_reads 0 failed_writes) no_reads
+    (subst (λ (n : ℕ). AnyRose reads failed_reads n failed_writes) no_writes
+    (subst (λ (n : ℕ). AnyRose reads n writes failed_writes) (sym reads_are)
+    (subst (λ (n : ℕ). AnyRose reads reads_after writes n) (sym writes_are) rose)))
+
+-- ---- what the workers have served
+
+module _ {D L N R : Type 0} (tells : Tells L R) (first : Option (Store D)) (capacity : ℕ) (sites atoms : List (List ℕ)) (links : Option (List L)) where
+  pub served_first : (records : List (Record L N R)) → map (λ (one : Record L N R). one.pass.session) records ≡ numbers_from 0 (length records)
+      → All (λ (one : Record L N R). IsServedOf tells first capacity sites atoms links one.pass one.end) records
+      → AreServed tells first capacity sites atoms links (length records) (map (λ (one : Record L N R). one.pass) records) (map (λ (one : Record L N R). one.end) records)
+  served_first records in_order each =
+      let pair : Record L N R → PassValue × LinkEnd L R = (λ one. (one.pass, one.end)) in
+      let all = served_all tells first capacity sites atoms links (map pair records) (length records) (length-map records pair)
+      (map-map (λ (one : PassValue × LinkEnd L R). one.0.session) pair records ∙ in_order)
+      (All-map (λ (one : PassValue × LinkEnd L R). IsServedOf tells first capacity sites atoms links one.0 one.1) pair records each) in
+      subst (λ (l : List (LinkEnd L R)). AreServed tells first capacity sites atoms links (length records) (map (λ (one : Record L N R). one.pass) records) l) (map-map (λ (one : PassValue × LinkEnd L R). one.1) pair records)
+      (subst (λ (l : List PassValue). AreServed tells first capacity sites atoms links (length records) l (map (λ (one : PassValue × LinkEnd L R). one.1) (map pair records))) (map-map (λ (one : PassValue × LinkEnd L R). one.0) pair records) all)

@@ -1,0 +1,61 @@
+use Rattle.std.proofs.Common.{◌≡◌, ◌<◌, ℕ, Some, length, ap, subst, sym, ◌∙◌}
+use Rattle.std.specs.Prelude.{None, slice_get}
+use Rattle.std.specs.List.{All}
+use Rattle.dcr_turn.specs.PassValue.{PassValue}
+use Rattle.dcr_serve.specs.Left.{AreAllButFirst}
+use Rattle.dcr_serving.specs.Placing.{AreInPlace, filled}
+use Rattle.dcr_serving.specs.Serving.{IsServedOf}
+use Rattle.dcr_serving.proofs.DeskLemmas.{below, from_hands, none_in_place, taken_are}
+use Rattle.dcr_serving.proofs.desk.work_at.Goals as goal
+
+pub gather-requires-clause-in_place : goal.gather-requires-clause-in_place
+gather-requires-clause-in_place g c = none_in_place c.args.slots.now c.requires.empty
+
+pub part-left-requires-clause-within : goal.part-left-requires-clause-within
+part-left-requires-clause-within g c =
+    subst (λ (n : ℕ). All (λ (seat : PassValue). seat.session < n) c.finish-door.result.1.items) (sym (c.gather.ensures.as_many ∙ c.requires.places))
+    (below c.finish-door.result.1.items c.gather.new.share.taken g.M.DeskName.items c.finish-door.ensures.items)
+
+pub returns-clause-in_place : goal.returns-clause-in_place
+returns-clause-in_place g c = subst (λ slots. AreInPlace slots) (sym c.part-left.ensures.slots) c.gather.ensures.in_place
+
+pub returns-clause-served : goal.returns-clause-served
+returns-clause-served g c =
+    subst (λ slots. All (λ one. IsServedOf (record {
+      left = g.B.Link.Source.left;
+      taken = g.B.Link.Sink.taken;
+      unread = g.B.Link.Rest.Spent.unread;
+      sent = g.B.Link.Rest.Spent.sent;
+      failed_reads = g.B.Link.Rest.Spent.failed_reads;
+      failed_writes = g.B.Link.Rest.Spent.failed_writes;
+    })
+    g.N.StoreName.first g.N.TurnName.capacity c.args.cover.now.names c.args.graph.now.names g.M.DeskName.links one.pass one.end) (filled slots)) (sym c.part-left.ensures.slots)
+    (from_hands (λ one. IsServedOf (record {
+      left = g.B.Link.Source.left;
+      taken = g.B.Link.Sink.taken;
+      unread = g.B.Link.Rest.Spent.unread;
+      sent = g.B.Link.Rest.Spent.sent;
+      failed_reads = g.B.Link.Rest.Spent.failed_reads;
+      failed_writes = g.B.Link.Rest.Spent.failed_writes;
+    })
+    g.N.StoreName.first g.N.TurnName.capacity c.args.cover.now.names c.args.graph.now.names g.M.DeskName.links one.pass one.end) c.args.slots.now c.gather.new.slots c.at_work.new.hands.items c.requires.empty c.gather.ensures.from_hands
+    (λ k d within. (c.at_work.ensures.served k d within).each))
+
+pub returns-clause-free : goal.returns-clause-free
+returns-clause-free g c =
+    subst (λ slots. All (λ (seat : PassValue). slice_get slots seat.session ≡ Some None) c.part-left.result.items) (sym c.part-left.ensures.slots)
+    (subst (All (λ (seat : PassValue). slice_get c.gather.new.slots seat.session ≡ Some None)) (sym c.part-left.ensures.seats) c.part-left.ensures.free)
+
+pub returns-clause-stands : goal.returns-clause-stands
+returns-clause-stands g c =
+    let taken : c.gather.new.share.taken ≡ length (filled c.part-left.new.slots) =
+    taken_are c.gather.new.share.taken (length (filled c.args.slots.now)) c.deal-hands.new.share.taken (length (filled c.gather.new.slots)) c.gather.ensures.count
+    (ap (λ l. length l) c.requires.empty) (c.deal-hands.ensures.taken ∙ c.new-desk.ensures.none_taken)
+    ∙ ap (λ slots. length (filled slots)) (sym c.part-left.ensures.slots) in
+    record {
+      left = subst (λ (n : ℕ). AreAllButFirst g.M.DeskName.links n (g.B.Door.links c.finish-door.result.0)) taken c.finish-door.ensures.links;
+      never_falls = c.finish-door.ensures.never_falls;
+      unfailed = c.finish-door.ensures.unfailed;
+      shut = c.finish-door.ensures.shut;
+      failed = c.finish-door.ensures.failed;
+    }

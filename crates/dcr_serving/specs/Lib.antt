@@ -1,0 +1,4 @@
+pub mod SeatModel
+pub mod Serving
+pub mod Placing
+pub mod Hands
