@@ -1,5 +1,6 @@
 """The documents: their links hold, the commands in them print what the page says, and what they name is there."""
 
+import contextlib
 import glob
 import os
 import re
@@ -8,6 +9,7 @@ import tempfile
 
 from checks import EXAMPLES, TOP, NotTried, read, run, want
 from checks.program import prepare  # noqa: F401
+from checks.serving import the_port
 
 # Commands that a reader calls and that take minutes, or that change what is not the repository's.
 NOT_RUN = re.compile(r"(rt |\.ci/run$|git |cd |ln -s|cp crates/dcr/out/dcr|bench/)")
@@ -88,7 +90,9 @@ def check_commands_print_what_the_pages_say():
                 os.symlink(os.path.join(TOP, name), os.path.join(room, name))
             # (without jq, neither its commands nor those that take what it made)
             for command, lines in [it for it in commands(text) if has_jq or not re.search(r"\bjq\b|own\.head", it[0])]:
-                status, wrote, said = run(["sh", "-c", command], cwd=room)
+                # (one check at a time serves)
+                with the_port() if "dcr serve" in command else contextlib.nullcontext():
+                    status, wrote, said = run(["sh", "-c", command], cwd=room)
                 shown = (wrote + said).decode()
                 if not is_printed(lines, shown) or (not lines and status):
                     wrong.append("%s: `%s` has status %d and prints\n%s" % (page, command, status, shown))

@@ -14,7 +14,7 @@ import time
 from checks import EXAMPLES, TOP, NotTried, examples, read, run, want
 
 PROGRAM = os.path.join(TOP, "crates/dcr/out/dcr")
-DONE, USAGE, REFUSED, READ_FAULT, WRITE_FAULT, NO_MEMORY, DISK_FAULT, INVALID, TAPE_REFUSED = 0, 2, 3, 4, 5, 6, 7, 8, 10
+DONE, USAGE, REFUSED, READ_FAULT, WRITE_FAULT, NO_MEMORY, DISK_FAULT, INVALID, TAPE_REFUSED, DOOR_FAULT = 0, 2, 3, 4, 5, 6, 7, 8, 10, 11
 
 
 @functools.cache

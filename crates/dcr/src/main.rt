@@ -1,4 +1,5 @@
-//! The program `dcr`: standard input to standard output, the tape in the current folder, and the status of the run.
+//! The program `dcr`: standard input to standard output, connections to port 7411, the tape in the current folder, and the
+//! status of the run.
 #![tactic(auto)]
 
 ghost use Rattle.std.specs.Prelude.{◌≡◌, ◌≢◌, [], IfErr, IfOk, drop};
@@ -6,16 +7,21 @@ ghost use Rattle.std.specs.IoError.{error_kind};
 ghost use Rattle.std.specs.Process.{exit_status};
 ghost use Rattle.std.specs.Vec.Iter.{into_iter_items};
 ghost use Rattle.dcr_base.specs.Status.{code_of};
+ghost use Rattle.dcr_app.specs.Telling.{doors_of};
 ghost use Rattle.dcr.specs.Exit.{Exits, IsUntouched};
 
 use dcr_app::{Status, dcr};
-use dcr_base::{Disk, FileDisk, Gate, OpenGate, Sink, Source, StdSink, StdSource};
+use dcr_base::{Disk, Door, FileDisk, Gate, Link, OpenGate, Sink, Source, StdSink, StdSource};
+use dcr_serve::TcpDoor;
 use std::alloc::Global;
 use std::io::ErrorKind;
 use std::process::ExitCode;
 use std::sync::Wait;
 use std::thread::Threads;
 use std::{env, io};
+
+// The port of 127.0.0.1 at which sessions are served.
+const PORT: u16 = 7411;
 
 fn main(rt: HostRuntime) -> ExitCode {
     let mut input = StdSource::new(rt.reader());
@@ -30,17 +36,19 @@ fn main(rt: HostRuntime) -> ExitCode {
         env::args(&rt),
         &mut input,
         &mut output,
+        TcpDoor::new(&rt, PORT),
         disk,
         OpenGate,
     )
 }
 
 // The whole program: the words behind the first are the command, and the process ends with the number of the status
-// that the command ends with on this input, output and disk. Words that are no text are no command's. Where memory fails
-// while the words are gathered, it ends as for want of memory, with nothing read, nothing written and no call of the disk.
+// that the command ends with on this input, output, door and disk. Words that are no text are no command's. Where memory
+// fails while the words are gathered, it ends as for want of memory, with nothing read and nothing written.
 fn program<
     I: Source,
     O: Sink,
+    B: Door<Link: Link<Rest: Drop + Send> + Send> + Drop + Send,
     D: Disk + Drop + Send,
     G: Gate + Drop + Sync,
     R: Threads + Wait + Sync,
@@ -50,12 +58,18 @@ fn program<
     words: io::Result<env::Args>,
     input: &mut I,
     output: &mut O,
+    door: B,
     disk: D,
     gate: G,
 ) -> ExitCode
-    ensures words { IfOk words (λ args. Exits D.view D.faults (drop 1 (into_iter_items args)) disk (I.left input.old) (I.left input.new)
+    ensures words { IfOk words (λ args. Exits D.view D.faults (doors_of B.links B.is_shut B.faults B.Link.left B.Link.taken B.Link.Rest.unread B.Link.Rest.sent
+        B.Link.Rest.failed_reads B.Link.Rest.failed_writes)
+        door (drop 1 (into_iter_items args)) disk (I.left input.old) (I.left input.new)
         (O.taken output.old) (O.taken output.new) (I.has_ended input.new) (exit_status result)) }
-    ensures no_text { IfErr words (λ error. error_kind error ≡ ErrorKind.InvalidData → Exits D.view D.faults [] disk (I.left input.old) (I.left input.new)
+    ensures no_text { IfErr words (λ error. error_kind error ≡ ErrorKind.InvalidData → Exits D.view D.faults
+        (doors_of B.links B.is_shut B.faults B.Link.left B.Link.taken B.Link.Rest.unread B.Link.Rest.sent
+        B.Link.Rest.failed_reads B.Link.Rest.failed_writes)
+        door [] disk (I.left input.old) (I.left input.new)
         (O.taken output.old) (O.taken output.new) (I.has_ended input.new) (exit_status result)) }
     ensures no_words { IfErr words (λ error. error_kind error ≢ ErrorKind.InvalidData → exit_status result ≡ code_of Status.NoMemory) }
     ensures unread { IfErr words (λ error. error_kind error ≢ ErrorKind.InvalidData → IsUntouched (I.left input.old) (I.left input.new)
@@ -63,11 +77,11 @@ fn program<
 {
     match words {
         Ok(words) => match behind_first(alloc, words) {
-            Ok(words) => answer(rt, alloc, &words, input, output, disk, gate),
+            Ok(words) => answer(rt, alloc, &words, input, output, door, disk, gate),
             Err(_) => exit_of(Status::NoMemory),
         },
         Err(error) if error.kind() == ErrorKind::InvalidData => {
-            answer(rt, alloc, &[], input, output, disk, gate)
+            answer(rt, alloc, &[], input, output, door, disk, gate)
         }
         Err(_) => exit_of(Status::NoMemory),
     }
@@ -77,6 +91,7 @@ fn program<
 fn answer<
     I: Source,
     O: Sink,
+    B: Door<Link: Link<Rest: Drop + Send> + Send> + Drop + Send,
     D: Disk + Drop + Send,
     G: Gate + Drop + Sync,
     R: Threads + Wait + Sync,
@@ -86,13 +101,16 @@ fn answer<
     words: &[String],
     input: &mut I,
     output: &mut O,
+    door: B,
     disk: D,
     gate: G,
 ) -> ExitCode
-    ensures { Exits D.view D.faults words.now disk (I.left input.old) (I.left input.new) (O.taken output.old) (O.taken output.new)
+    ensures { Exits D.view D.faults (doors_of B.links B.is_shut B.faults B.Link.left B.Link.taken B.Link.Rest.unread B.Link.Rest.sent
+        B.Link.Rest.failed_reads B.Link.Rest.failed_writes)
+        door words.now disk (I.left input.old) (I.left input.new) (O.taken output.old) (O.taken output.new)
         (I.has_ended input.new) (exit_status result) }
 {
-    let end = dcr(rt, alloc, words, input, output, disk, gate);
+    let end = dcr(rt, alloc, words, input, output, door, disk, gate);
     exit_of(end.status)
 }
 

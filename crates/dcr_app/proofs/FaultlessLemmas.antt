@@ -3,7 +3,7 @@ use Rattle.std.proofs.Common.{◌≡◌, ◌≢◌, ◌⊎◌, ℕ, ◌≤◌, B
 use Rattle.std.proofs.lemmas.Option.{slice_get_within}
 use Rattle.dcr_base.specs.Disk.{DiskView}
 use Rattle.dcr_base.specs.declared.status.Status.{Status}
-use Rattle.dcr_base.specs.declared.status.Status.TheVariants.{Done, Refused, ReadFault, WriteFault, NoMemory, DiskFault, TapeRefused}
+use Rattle.dcr_base.specs.declared.status.Status.TheVariants.{Done, Refused, ReadFault, WriteFault, NoMemory, DiskFault, Full, TapeRefused, DoorFault}
 use Rattle.dcr_journal.specs.declared.closed.Closed.{Closed}
 use Rattle.dcr_journal.specs.declared.call.Entry.{Entry}
 use Rattle.dcr_tape.specs.Laws.{NoCause, OneList}
@@ -18,11 +18,11 @@ use Rattle.dcr_json.specs.Refusals.{CasesAreTheFormats}
 use Rattle.dcr_json.specs.declared.case.CaseStop.{CaseStop}
 use Rattle.dcr_report.specs.Report.{report_text}
 use Rattle.dcr_app.specs.Answers.{AnswersCase, IsAnsweredCase, IsOr, IsTapeRefused, TellsNone, TellsRun, is_silent, is_refused, has_failed, is_tape_refused}
-use Rattle.dcr_app.specs.Headline.{IsDueFor, all_done, cluster_in, digest_of}
-use Rattle.dcr_app.specs.Headline.{has_failed as some_failed}
+use Rattle.dcr_app.specs.Headline.{cluster_in, digest_of}
 use Rattle.dcr_app.specs.Outside.{Wrote}
 use Rattle.dcr_app.specs.Refusal.{refusal_line}
 use Rattle.dcr_app.specs.Stored.{RefusesTape, by_bytes, by_execution, tape_line}
+use Rattle.dcr_app.specs.Telling.{IsDueBy, Telling, all_done, disk_failed, door_failed, is_full}
 use Rattle.dcr_app.proofs.OutsideLemmas.{ends_as}
 use Rattle.dcr_app.proofs.RunLemmas.{one_case, read_as}
 use Rattle.dcr_app.proofs.TapeLemmas.{one_stands}
@@ -49,39 +49,52 @@ due_or due text status had took writes wrote = elim (ends_as due text status had
   ]
 ]
 
--- the report of a run was written, or memory ran out, where neither the output nor the disk failed
-done_or : (J : List Entry) (due : Status) (text : List ℕ) (status : Status) (had took : Option (List ℕ)) → (status ≡ WriteFault → ⊥) → (status ≡ DiskFault → ⊥)
-    → IsDueFor J due → Wrote due text status had took → IsOr Done status
-done_or J due text status had took writes disks (all_done none is) wrote = subst (λ d. IsOr d status) is (due_or due text status had took writes wrote)
-done_or J due text status had took writes disks (some_failed some is) wrote = elim (due_or due text status had took writes wrote) [
+-- the report of a run was written, or memory ran out, where neither the output nor the disk nor the door failed
+done_or : {fine full failed : Type 0} (due : Status) (text : List ℕ) (status : Status) (had took : Option (List ℕ)) → (status ≡ WriteFault → ⊥) → (status ≡ DiskFault → ⊥) → (status ≡ DoorFault → ⊥)
+    → IsDueBy fine full failed due → Wrote due text status had took → ((status ≡ Full) × full) ⊎ IsOr Done status
+done_or due text status had took writes disks doors (all_done none room is) wrote = inr (subst (λ d. IsOr d status) is (due_or due text status had took writes wrote))
+done_or due text status had took writes disks doors (is_full none full is) wrote = elim (due_or due text status had took writes wrote) [
+  | inl e ↦ inl (e ∙ is, full)
+  | inr e ↦ inr (inr e)
+]
+done_or due text status had took writes disks doors (door_failed none room failed is) wrote = elim (due_or due text status had took writes wrote) [
+  | inl e ↦ absurd (doors (e ∙ is))
+  | inr e ↦ inr (inr e)
+]
+done_or due text status had took writes disks doors (disk_failed some is) wrote = elim (due_or due text status had took writes wrote) [
   | inl e ↦ absurd (disks (e ∙ is))
-  | inr e ↦ inr e
+  | inr e ↦ inr (inr e)
 ]
 
-module _ {D : Type 0} (view : D → DiskView) (faults : D → ℕ) (law : CasesAreTheFormats) (one : OneList) (none : NoCause) (workers : ℕ) (before end : D) (has_ended : Type 0)
-    (had took : Option (List ℕ)) (status : Status) (reads : status ≡ ReadFault → ⊥) (writes : status ≡ WriteFault → ⊥) (disks : status ≡ DiskFault → ⊥) where
-  starved : (store : Bool) (case : Result Spelled CaseStop) → status ≡ NoMemory → IsAnsweredCase store (view before) case status
+module _ {D : Type 0} (view : D → DiskView) (faults : D → ℕ) (law : CasesAreTheFormats) (one : OneList) (none : NoCause) (telling : Telling D) (before end : D) (has_ended : Type 0)
+    (had took : Option (List ℕ)) (status : Status) (reads : status ≡ ReadFault → ⊥) (writes : status ≡ WriteFault → ⊥) (disks : status ≡ DiskFault → ⊥) (doors : status ≡ DoorFault → ⊥)
+    (IsDone : Status → Type 0) (when_done : IsOr Done status → IsDone status) (when_full : status ≡ Full → ((J : List Entry) × telling.full J) → IsDone status) where
+  starved : (store : Bool) (case : Result Spelled CaseStop) → status ≡ NoMemory → IsAnsweredCase IsDone store (view before) case status
   starved store (Err why) is = inr is
-  starved false (Ok case) is = inr is
-  starved true (Ok case) is = λ told. record { empty = λ _. inr is; goes_on = λ _ _ _ _. inr is; refused = λ _ _ _. inr is }
+  starved false (Ok case) is = when_done (inr is)
+  starved true (Ok case) is = λ told. record { empty = λ _. when_done (inr is); goes_on = λ _ _ _ _. when_done (inr is); refused = λ _ _ _. inr is }
 
-  -- a run that is told
-  ran : (store : Bool) (bytes : List ℕ) (closed : Closed) → TellsRun view faults workers store before end (Some bytes) has_ended had took status closed
-      → (case : Spelled) → case_in bytes ≡ Ok case → IsAnsweredCase store (view before) (Ok case) status
-  ran false bytes closed it case is =
-      done_or closed.history.entries it.headline.report.0 (report_text it.case.nested it.case.cover closed.opening closed.history.entries) status had took writes disks
-      it.headline.report.1 it.headline.report.2
+  -- a run that is told was done
+  done_by : (store : Bool) (bytes : List ℕ) (closed : Closed) → TellsRun view faults telling store before end (Some bytes) has_ended had took status closed → IsDone status
+  done_by store bytes closed it =
+      let text = report_text it.case.nested it.case.cover closed.opening closed.history.entries in
+      elim (done_or it.headline.report.0 text status had took writes disks doors it.headline.report.1 it.headline.report.2) [
+        | inl e ↦ when_full e.0 (closed.history.entries, e.1)
+        | inr e ↦ when_done e
+      ]
+
+  ran : (store : Bool) (bytes : List ℕ) (closed : Closed) → TellsRun view faults telling store before end (Some bytes) has_ended had took status closed
+      → (case : Spelled) → case_in bytes ≡ Ok case → IsAnsweredCase IsDone store (view before) (Ok case) status
+  ran false bytes closed it case is = done_by false bytes closed it
   ran true bytes closed it case is = λ told.
-      let done = done_or closed.history.entries it.headline.report.0 (report_text it.case.nested it.case.cover closed.opening closed.history.entries) status had took writes disks
-      it.headline.report.1 it.headline.report.2 in
-      let same : it.case ≡ case = one_case bytes case it.case is (read_as view faults workers true before end law bytes has_ended had took status closed it) in
+      let same : it.case ≡ case = one_case bytes case it.case is (read_as view faults telling true before end law bytes has_ended had took status closed it) in
       record {
-        empty = λ _. done;
-        goes_on = λ _ _ _ _. done;
+        empty = λ _. done_by true bytes closed it;
+        goes_on = λ _ _ _ _. done_by true bytes closed it;
         refused = λ cause some refuses. absurd (not_refused it (subst (λ c. RefusesTape c (view before).content cause) (sym same) refuses) some (it.headline.history.0 told));
       }
     where
-      not_refused : (it : TellsRun view faults workers true before end (Some bytes) has_ended had took status closed) → {cause : TapeCause}
+      not_refused : (it : TellsRun view faults telling true before end (Some bytes) has_ended had took status closed) → {cause : TapeCause}
           → RefusesTape it.case (view before).content cause → (view before).content ≢ []
           → (((view before).content ≡ []) × (it.old ≡ [])) ⊎ StandsFor (digest_of it.case) it.old (view before).content → ⊥
       not_refused it {cause} refuses some (inl empty) = some empty.0
@@ -89,7 +102,7 @@ module _ {D : Type 0} (view : D → DiskView) (faults : D → ℕ) (law : CasesA
 
   -- a tape that is refused
   tape_refused : (bytes : List ℕ) (case : Spelled) → case_in bytes ≡ Ok case → IsTapeRefused (view before) (view end) (Some bytes) had took status
-      → IsAnsweredCase true (view before) (Ok case) status
+      → IsAnsweredCase IsDone true (view before) (Ok case) status
   tape_refused bytes case is it = λ told.
       let due = due_or TapeRefused (tape_line it.cause) status had took writes it.line in
       let same : it.case ≡ case = one_case bytes case it.case is (ap case_in it.read ∙ it.spelled) in
@@ -103,7 +116,7 @@ module _ {D : Type 0} (view : D → DiskView) (faults : D → ℕ) (law : CasesA
 
   -- no run is told
   told_none : (store : Bool) (bytes : List ℕ) (result : Result Spelled CaseStop) → case_in bytes ≡ result → TellsNone store (view before) (view end) (Some bytes) had took status
-      → IsAnsweredCase store (view before) result status
+      → IsAnsweredCase IsDone store (view before) result status
   told_none store bytes result is (is_silent silent) = elim silent.0 [
     | inl e ↦ absurd (reads e)
     | inr e ↦ starved store result e
@@ -112,16 +125,16 @@ module _ {D : Type 0} (view : D → DiskView) (faults : D → ℕ) (law : CasesA
   told_none store bytes (Ok case) is (is_refused it) = absurd (let wrong = sym is ∙ (ap case_in it.read ∙ it.refuses) in cc)
   told_none store bytes result is (has_failed on fault nothing) = absurd (disks fault)
   told_none store bytes (Err why) is (is_tape_refused on it) = absurd (let wrong = sym is ∙ (ap case_in it.read ∙ it.spelled) in cc)
-  told_none store bytes (Ok case) is (is_tape_refused on it) = subst (λ s. IsAnsweredCase s (view before) (Ok case) status) (sym on) (tape_refused bytes case is it)
+  told_none store bytes (Ok case) is (is_tape_refused on it) = subst (λ s. IsAnsweredCase IsDone s (view before) (Ok case) status) (sym on) (tape_refused bytes case is it)
 
-  told_some : (store : Bool) (bytes : List ℕ) (closed : Closed) → TellsRun view faults workers store before end (Some bytes) has_ended had took status closed
-      → IsAnsweredCase store (view before) (case_in bytes) status
+  told_some : (store : Bool) (bytes : List ℕ) (closed : Closed) → TellsRun view faults telling store before end (Some bytes) has_ended had took status closed
+      → IsAnsweredCase IsDone store (view before) (case_in bytes) status
   told_some store bytes closed it =
-      let is = read_as view faults workers store before end law bytes has_ended had took status closed it in
-      subst (λ c. IsAnsweredCase store (view before) c status) (sym is) (ran store bytes closed it it.case is)
+      let is = read_as view faults telling store before end law bytes has_ended had took status closed it in
+      subst (λ c. IsAnsweredCase IsDone store (view before) c status) (sym is) (ran store bytes closed it it.case is)
 
-  pub answered_case : (store : Bool) (left : Option (List ℕ)) (told_run : Option Closed) → AnswersCase view faults workers store before end left has_ended had took status told_run
-      → IfSome left (λ bytes. IsAnsweredCase store (view before) (case_in bytes) status)
+  pub answered_case : (store : Bool) (left : Option (List ℕ)) (told_run : Option Closed) → AnswersCase view faults telling store before end left has_ended had took status told_run
+      → IfSome left (λ bytes. IsAnsweredCase IsDone store (view before) (case_in bytes) status)
   answered_case store None told_run it = tt
   answered_case store (Some bytes) (Some closed) it = told_some store bytes closed it
   answered_case store (Some bytes) None it = told_none store bytes (case_in bytes) refl it

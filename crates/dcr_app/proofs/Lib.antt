@@ -3,6 +3,7 @@ mod OutsideLemmas
 mod DueLemmas
 mod TapeLemmas
 mod RunLemmas
+mod LinksLemmas
 mod OverLemmas
 mod FaultlessLemmas
 mod ReplayLemmas

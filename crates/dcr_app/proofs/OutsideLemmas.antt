@@ -3,9 +3,14 @@ use Rattle.std.proofs.Common.{◌≡◌, ◌⊎◌, ℕ, ◌<◌, ◌≤◌, ◌
 use Rattle.std.specs.Io.KnownBytes.{Appends, IsAtEnd}
 use Rattle.std.proofs.lemmas.List.{append-nil, drop_all, length-replicate}
 use Rattle.dcr_base.specs.declared.status.Status.{Status}
-use Rattle.dcr_base.specs.declared.status.Status.TheVariants.{Done, Usage, Refused, ReadFault, WriteFault, NoMemory, DiskFault, Invalid, TapeRefused}
+use Rattle.dcr_base.specs.declared.status.Status.TheVariants.{Done, Usage, Refused, ReadFault, WriteFault, NoMemory, DiskFault, Invalid, Full, TapeRefused, DoorFault}
 use Rattle.dcr_app.specs.declared.answer.Answer.{Answer}
-use Rattle.dcr_app.specs.Outside.{IsDue, IsSilent, Stopped, TookAtMost, WereLeft, Wrote}
+use Rattle.dcr_journal.specs.declared.closed.Closed.{Closed}
+use Rattle.dcr_serving.specs.declared.end.LinkEnd.{LinkEnd}
+use Rattle.dcr_app.specs.declared.way.Way.{Way}
+use Rattle.dcr_app.specs.declared.way.Way.TheVariants as way
+use Rattle.dcr_app.specs.Telling.{Doors, Leaves, LeavesWith}
+use Rattle.dcr_app.specs.Outside.{IsDue, IsOfReport, IsSilent, Stopped, TookAtMost, WereLeft, Wrote}
 
 -- ---- what was read
 
@@ -52,10 +57,26 @@ whole Usage text had took is wrote = (refl, wrote)
 whole Refused text had took is wrote = (refl, wrote)
 whole DiskFault text had took is wrote = (refl, wrote)
 whole Invalid text had took is wrote = (refl, wrote)
+whole Full text had took is wrote = (refl, wrote)
 whole TapeRefused text had took is wrote = (refl, wrote)
+whole DoorFault text had took is wrote = (refl, wrote)
 whole ReadFault text had took is wrote = elim is [ ]
 whole WriteFault text had took is wrote = elim is [ ]
 whole NoMemory text had took is wrote = elim is [ ]
+
+-- a report is due with a status with which a text is due
+pub report_is_due : (due : Status) → IsOfReport due → IsDue due
+report_is_due Done is = tt
+report_is_due DiskFault is = tt
+report_is_due Full is = tt
+report_is_due DoorFault is = tt
+report_is_due Usage is = elim is [ ]
+report_is_due Refused is = elim is [ ]
+report_is_due ReadFault is = elim is [ ]
+report_is_due WriteFault is = elim is [ ]
+report_is_due NoMemory is = elim is [ ]
+report_is_due Invalid is = elim is [ ]
+report_is_due TapeRefused is = elim is [ ]
 
 pub front : (text : List ℕ) (count : ℕ) (had took : Option (List ℕ)) → count < length text → Appends had took (take count text) → Stopped text had took
 front text count had took fewer wrote = record { count = count; fewer = fewer; wrote = wrote }
@@ -73,7 +94,9 @@ ends_as due text Refused had took wrote = inl wrote.0
 ends_as due text ReadFault had took wrote = inl wrote.0
 ends_as due text DiskFault had took wrote = inl wrote.0
 ends_as due text Invalid had took wrote = inl wrote.0
+ends_as due text Full had took wrote = inl wrote.0
 ends_as due text TapeRefused had took wrote = inl wrote.0
+ends_as due text DoorFault had took wrote = inl wrote.0
 
 -- with a status with which a text is due, all of it was written
 pub all_of : (due : Status) (text : List ℕ) (status : Status) (had took : Option (List ℕ)) → IsDue status → Wrote due text status had took
@@ -83,7 +106,9 @@ all_of due text Usage had took is wrote = wrote
 all_of due text Refused had took is wrote = wrote
 all_of due text DiskFault had took is wrote = wrote
 all_of due text Invalid had took is wrote = wrote
+all_of due text Full had took is wrote = wrote
 all_of due text TapeRefused had took is wrote = wrote
+all_of due text DoorFault had took is wrote = wrote
 all_of due text ReadFault had took is wrote = elim is [ ]
 all_of due text WriteFault had took is wrote = elim is [ ]
 all_of due text NoMemory had took is wrote = elim is [ ]
@@ -92,3 +117,23 @@ all_of due text NoMemory had took is wrote = elim is [ ]
 pub wrote_at : (due : Status) (text : List ℕ) (status named : Status) (had took : Option (List ℕ)) → status ≡ named → IsDue named → Wrote due text status had took
     → (named ≡ due) × Appends had took text
 wrote_at due text status named had took is named_is wrote = all_of due text named had took named_is (subst (λ s. Wrote due text s had took) is wrote)
+
+-- ---- ends without a run
+
+-- what holds of an answer over a disk holds of the end with that answer and disk
+pub at_end : {D : Type 0} (P : Status → Option Closed → D → Type 0) (status of_end : Status) (closed told_run : Option Closed) (disk after : D) → of_end ≡ status → told_run ≡ closed → after ≡ disk
+    → P status closed disk → P of_end told_run after
+at_end P status of_end closed told_run disk after is told there holds =
+    subst (λ s. P s told_run after) (sym is) (subst (λ t. P status t after) (sym told) (subst (λ d. P status closed d) (sym there) holds))
+
+-- where no run is told, the door is as it was
+pub not_asked : {B L R : Type 0} (doors : Doors B L R) (way : Way) (told_run : Option Closed) (before after : B) (ends : List (LinkEnd L R)) (status : Status) → told_run ≡ None → after ≡ before → ends ≡ []
+    → Leaves doors way told_run before after ends status
+not_asked doors (way.Run workers) told_run before after ends status none same empty = (same, empty)
+not_asked doors (way.Serve sessions workers) told_run before after ends status none same empty =
+    subst (λ t. LeavesWith doors sessions t before after ends status) (sym none) (same, empty)
+
+pub not_asked_with : {B L R : Type 0} (doors : Doors B L R) (sessions : ℕ) (told_run : Option Closed) (before after : B) (ends : List (LinkEnd L R)) (status : Status) → told_run ≡ None → after ≡ before → ends ≡ []
+    → LeavesWith doors sessions told_run before after ends status
+not_asked_with doors sessions told_run before after ends status none same empty =
+    subst (λ t. LeavesWith doors sessions t before after ends status) (sym none) (same, empty)

@@ -28,10 +28,10 @@ use Rattle.dcr_json.specs.Judged.{Spelled}
 use Rattle.dcr_json.specs.Refusals.{CasesAreTheFormats}
 use Rattle.dcr_report.specs.Report.{report_text}
 use Rattle.dcr_app.specs.Answers.{AnswersCase, TellsNone, is_silent, has_failed, is_tape_refused}
-use Rattle.dcr_app.specs.Headline.{IsDueFor, all_done, cluster_in, digest_of}
-use Rattle.dcr_app.specs.Headline.{has_failed as some_failed}
+use Rattle.dcr_app.specs.Headline.{cluster_in, digest_of}
 use Rattle.dcr_app.specs.Outside.{IsSilent, Wrote}
 use Rattle.dcr_app.specs.Stored.{EndsFor, EndsOver, HasKept, RanOver, StandsStill, by_bytes, by_execution, disk_in, tape_cause, tape_line}
+use Rattle.dcr_app.specs.Telling.{IsDueBy, Telling, all_done, disk_failed, door_failed, is_full}
 use Rattle.dcr_app.proofs.OutsideLemmas.{wrote_at}
 use Rattle.dcr_app.proofs.RunLemmas.{tells_run}
 use Rattle.dcr_app.proofs.TapeLemmas.{either_way, has_kept, none_made, still_opened, still_refused, still_then, stood, stood_for}
@@ -46,11 +46,12 @@ not_silent status named had took is read memory silent = elim silent.0 [
 ]
 
 -- a report that ended with the status of a fault tells one
-pub fault_told : (J : List Entry) (due : Status) (text : List ℕ) (status : Status) (had took : Option (List ℕ)) → IsDueFor J due → Wrote due text status had took
-    → status ≡ DiskFault → ¬ HasNoFault J
-fault_told J due text status had took (all_done none is) wrote fault =
-    let same : DiskFault ≡ due = (wrote_at due text status DiskFault had took fault tt wrote).0 in absurd (let wrong = same ∙ is in cc)
-fault_told J due text status had took (some_failed some is) wrote fault = some
+pub fault_told : {fine full failed : Type 0} (due : Status) (text : List ℕ) (status : Status) (had took : Option (List ℕ)) → IsDueBy fine full failed due → Wrote due text status had took
+    → status ≡ DiskFault → fine → ⊥
+fault_told due text status had took (disk_failed some is) wrote fault = some
+fault_told due text status had took (all_done none room is) wrote fault = absurd (let wrong = (wrote_at due text status DiskFault had took fault tt wrote).0 ∙ is in cc)
+fault_told due text status had took (is_full none full is) wrote fault = absurd (let wrong = (wrote_at due text status DiskFault had took fault tt wrote).0 ∙ is in cc)
+fault_told due text status had took (door_failed none room failed is) wrote fault = absurd (let wrong = (wrote_at due text status DiskFault had took fault tt wrote).0 ∙ is in cc)
 
 -- a line of a refused tape is never told as a failed disk
 never_failed : (why : TapeCause) (status : Status) (had took : Option (List ℕ)) → status ≡ DiskFault
@@ -75,15 +76,15 @@ off_stands : {D : Type 0} (view : D → DiskView) (faults : D → ℕ) (before :
 off_stands view faults before J (Off disk) stands = stands
 off_stands view faults before J (On tape) stands = elim stands [ ]
 
-module _ {D : Type 0} (view : D → DiskView) (faults : D → ℕ) (workers : ℕ) (case : Spelled) (before end : D) (had took : Option (List ℕ)) (status : Status) where
+module _ {D : Type 0} (view : D → DiskView) (faults : D → ℕ) (telling : Telling D) (case : Spelled) (before end : D) (had took : Option (List ℕ)) (status : Status) where
   off_left : (why : OpenCause) (last : Store D) → Leaves view faults [] why (Off before) last → disk_in last ≡ before
   off_left opening.NoMemory last leaves = ap disk_in leaves
   off_left (opening.BadTape at) last leaves = ap disk_in leaves
   off_left opening.DiskFault last leaves = elim leaves [ ]
 
   -- the disk is as it was
-  pub off_same : (told_run : Option Closed) → EndsOver view faults workers case [] (Off before) end had took status told_run → end ≡ before
-  off_same (Some closed) it = it.same ∙ (off_stands view faults before closed.history.entries it.last it.ran.stored).0
+  pub off_same : (told_run : Option Closed) → EndsOver view faults telling case [] (Off before) end had took status told_run → end ≡ before
+  off_same (Some closed) it = it.same ∙ (off_stands view faults before closed.history.entries it.last it.whole.stored).0
   off_same None it = it.same ∙ off_left it.cause it.last it.refused.leaves
 
   off_refused : (why : OpenCause) (last : Store D) → IsCause (cluster_in case []) why → Leaves view faults [] why (Off before) last → EndsFor (tape_cause why) status had took
@@ -93,18 +94,18 @@ module _ {D : Type 0} (view : D → DiskView) (faults : D → ℕ) (workers : �
   off_refused opening.DiskFault last stands leaves ends = elim leaves [ ]
 
   pub off_answers : CasesAreTheFormats → (bytes : List ℕ) → case_in bytes ≡ Ok case → (told_run : Option Closed)
-      → EndsOver view faults workers case [] (Off before) end had took status told_run
-      → AnswersCase view faults workers false before end (Some bytes) ⊤ had took status told_run
+      → EndsOver view faults telling case [] (Off before) end had took status told_run
+      → AnswersCase view faults telling false before end (Some bytes) ⊤ had took status told_run
   off_answers law bytes spelled (Some closed) it =
-      tells_run view faults law workers false before end bytes case [] (Off before) had took status closed spelled (omega arith) refl it (off_same (Some closed) it)
-      (λ off. (off_stands view faults before closed.history.entries it.last it.ran.stored).1)
+      tells_run view faults law telling false before end bytes case [] (Off before) had took status closed spelled (omega arith) refl it (off_same (Some closed) it)
+      (λ off. (off_stands view faults before closed.history.entries it.last it.whole.stored).1) (λ taped. elim taped [ ])
   off_answers law bytes spelled None it = is_silent (off_refused it.cause it.last it.refused.stands it.refused.leaves it.ends)
 
   -- it is never told as failed
-  pub off_unfailed : (told_run : Option Closed) → EndsOver view faults workers case [] (Off before) end had took status told_run → status ≡ DiskFault → ⊥
+  pub off_unfailed : (told_run : Option Closed) → EndsOver view faults telling case [] (Off before) end had took status told_run → status ≡ DiskFault → ⊥
   off_unfailed (Some closed) it is =
-      fault_told closed.history.entries it.report.0 (report_text case.nested case.cover closed.opening closed.history.entries) status had took it.report.1 it.report.2 is
-      (off_stands view faults before closed.history.entries it.last it.ran.stored).1
+      fault_told it.report.0 (report_text case.nested case.cover closed.opening closed.history.entries) status had took it.report.1 it.report.2 is
+      (off_stands view faults before closed.history.entries it.last it.whole.stored).1
   off_unfailed None it is =
       not_silent status DiskFault had took is (λ e. cc) (λ e. cc) (off_refused it.cause it.last it.refused.stands it.refused.leaves it.ends)
 
@@ -115,19 +116,19 @@ on_stands : {D : Type 0} (view : D → DiskView) (faults : D → ℕ) (tape : Ta
 on_stands view faults tape old J (Off disk) stands = elim stands [ ]
 on_stands view faults tape old J (On now) stands = (now, refl, stands)
 
-module _ {D : Type 0} (view : D → DiskView) (faults : D → ℕ) (workers : ℕ) (case : Spelled) (one : OneList) (before : D) (tape : Tape D) (old : List TapeEntry)
+module _ {D : Type 0} (view : D → DiskView) (faults : D → ℕ) (telling : Telling D) (case : Spelled) (one : OneList) (before : D) (tape : Tape D) (old : List TapeEntry)
     (long : length (digest_of case) ≡ 32) (opened : Opened (view before) (view tape.disk) (digest_of case) (part_of tape) old) (same_faults : faults tape.disk ≡ faults before)
     (end : D) (had took : Option (List ℕ)) (status : Status) where
   abbrev digest : List ℕ
   digest = digest_of case
 
   -- what is left after a run
-  kept_by : (closed : Closed) → (it : RanOver view faults workers case old (On tape) end had took status closed) → HasKept view faults digest old closed.history.entries before end
+  kept_by : (closed : Closed) → (it : RanOver view faults telling case old (On tape) end had took status closed) → HasKept view faults digest old closed.history.entries before end
   kept_by closed it =
       let J = closed.history.entries in
-      let stands = on_stands view faults tape old J it.last it.ran.stored in
+      let stands = on_stands view faults tape old J it.last it.whole.stored in
       subst (λ d. HasKept view faults digest old J before d) (sym (it.same ∙ stands.1))
-      (has_kept view faults one before tape digest old long opened J stands.0 stands.2 same_faults (either_way J it.report.0 it.report.1))
+      (has_kept view faults one before tape digest old long opened J stands.0 stands.2 same_faults (either_way it.report.0 it.report.1))
 
   some_there : (at : ℕ) → IsFirstBad (cluster_in case old) at → opened.before ≢ []
   some_there at bad empty =
@@ -162,11 +163,11 @@ module _ {D : Type 0} (view : D → DiskView) (faults : D → ℕ) (workers : �
           subst (λ d. IsTrue (view d).told × ((view d).content ≡ opened.before)) (sym is) (opened.told, opened.kept some)
 
   pub on_answers : CasesAreTheFormats → (bytes : List ℕ) → case_in bytes ≡ Ok case → (told_run : Option Closed)
-      → EndsOver view faults workers case old (On tape) end had took status told_run
-      → AnswersCase view faults workers true before end (Some bytes) ⊤ had took status told_run
+      → EndsOver view faults telling case old (On tape) end had took status told_run
+      → AnswersCase view faults telling true before end (Some bytes) ⊤ had took status told_run
   on_answers law bytes spelled (Some closed) it =
-      tells_run view faults law workers true before end bytes case old (On tape) had took status closed spelled opened.few
-      (stood_for view faults one before tape digest old long opened) it (kept_by closed it) (λ e. absurd cc)
+      tells_run view faults law telling true before end bytes case old (On tape) had took status closed spelled opened.few
+      (stood_for view faults one before tape digest old long opened) it (kept_by closed it) (λ e. absurd cc) (λ taped. refl)
   on_answers law bytes spelled None it = on_refused bytes spelled it.cause it.last it.same it.refused.stands it.refused.leaves it.ends
 
   still_for : (why : OpenCause) (last : Store D) → Leaves view faults old why (On tape) last → StandsStill view before (disk_in last)
@@ -176,7 +177,7 @@ module _ {D : Type 0} (view : D → DiskView) (faults : D → ℕ) (workers : �
   still_for opening.DiskFault (Off disk) leaves = elim leaves [ ]
   still_for (opening.BadTape at) last leaves = subst (λ s. StandsStill view before (disk_in s)) (sym leaves) (still_opened view faults one before tape digest old long opened)
 
-  pub on_still : (told_run : Option Closed) → EndsOver view faults workers case old (On tape) end had took status told_run → told_run ≡ None → StandsStill view before end
+  pub on_still : (told_run : Option Closed) → EndsOver view faults telling case old (On tape) end had took status told_run → told_run ≡ None → StandsStill view before end
   on_still (Some closed) it none = absurd cc
   on_still None it none = subst (λ d. StandsStill view before d) (sym it.same) (still_for it.cause it.last it.refused.leaves)
 
@@ -187,10 +188,10 @@ module _ {D : Type 0} (view : D → DiskView) (faults : D → ℕ) (workers : �
   failed_open opening.NoMemory last leaves is = absurd cc
   failed_open (opening.BadTape at) last leaves is = absurd cc
 
-  pub on_counted : (told_run : Option Closed) → EndsOver view faults workers case old (On tape) end had took status told_run → status ≡ DiskFault → Rose (faults before) (faults end)
+  pub on_counted : (told_run : Option Closed) → EndsOver view faults telling case old (On tape) end had took status told_run → status ≡ DiskFault → Rose (faults before) (faults end)
   on_counted (Some closed) it is =
       ((kept_by closed it).failed
-      (fault_told closed.history.entries it.report.0 (report_text case.nested case.cover closed.opening closed.history.entries) status had took it.report.1 it.report.2 is)).1
+      (fault_told it.report.0 (report_text case.nested case.cover closed.opening closed.history.entries) status had took it.report.1 it.report.2 is)).1
   on_counted None it is =
       subst (λ d. Rose (faults before) (faults d)) (sym it.same) (failed_open it.cause it.last it.refused.leaves (failed_for (tape_cause it.cause) status had took it.ends is))
 
@@ -205,13 +206,13 @@ module _ {D : Type 0} (view : D → DiskView) (faults : D → ℕ) (workers : �
   no_fewer_ran J (inl none) kept = let same = kept.no_fault none in omega (arith, same)
   no_fewer_ran J (inr some) kept = (kept.failed some).0
 
-  pub on_no_fewer : (told_run : Option Closed) → EndsOver view faults workers case old (On tape) end had took status told_run → faults before ≤ faults end
-  on_no_fewer (Some closed) it = no_fewer_ran closed.history.entries (either_way closed.history.entries it.report.0 it.report.1) (kept_by closed it)
+  pub on_no_fewer : (told_run : Option Closed) → EndsOver view faults telling case old (On tape) end had took status told_run → faults before ≤ faults end
+  on_no_fewer (Some closed) it = no_fewer_ran closed.history.entries (either_way it.report.0 it.report.1) (kept_by closed it)
   on_no_fewer None it = subst (λ d. faults before ≤ faults d) (sym it.same) (no_fewer_open it.cause it.last it.refused.leaves)
 
 -- ---- a disk that was not opened as a tape
 
-module _ {D : Type 0} (view : D → DiskView) (faults : D → ℕ) (workers : ℕ) (case : Spelled) (before end : D) (why : TapeCause)
+module _ {D : Type 0} (view : D → DiskView) (faults : D → ℕ) (telling : Telling D) (case : Spelled) (before end : D) (why : TapeCause)
     (refused : NotOpened (view before) (view end) (digest_of case) why) (counts : CountsFaultOf why (faults before) (faults end)) (had took : Option (List ℕ)) (status : Status)
     (ends : EndsFor why status had took) where
   shown_line : (bytes : List ℕ) → case_in bytes ≡ Ok case → (cause : TapeCause) → cause ≡ why → IsShown cause
@@ -243,9 +244,9 @@ module _ {D : Type 0} (view : D → DiskView) (faults : D → ℕ) (workers : �
   tells_none bytes spelled cause.Long same ends' = shown_line bytes spelled cause.Long same tt ends'
 
   pub unopened_answers : (bytes : List ℕ) → case_in bytes ≡ Ok case → (told_run : Option Closed) → told_run ≡ None
-      → AnswersCase view faults workers true before end (Some bytes) ⊤ had took status told_run
+      → AnswersCase view faults telling true before end (Some bytes) ⊤ had took status told_run
   unopened_answers bytes spelled told_run none =
-      subst (λ t. AnswersCase view faults workers true before end (Some bytes) ⊤ had took status t) (sym none) (tells_none bytes spelled why refl ends)
+      subst (λ t. AnswersCase view faults telling true before end (Some bytes) ⊤ had took status t) (sym none) (tells_none bytes spelled why refl ends)
 
   pub unopened_still : StandsStill view before end
   unopened_still = still_refused view before end (digest_of case) why refused

@@ -1,5 +1,5 @@
 -- What `run` answers.
-use Rattle.std.proofs.Common.{◌≡◌, ◌≢◌, ◌⊎◌, ℕ, ◌<◌, ◌≤◌, arith, Bool, false, List, length, Option, Some, None, Result, Ok, Err, IfSome, inl, inr, refl, sym, ap, subst, ◌∙◌, cond}
+use Rattle.std.proofs.Common.{◌≡◌, ◌≢◌, ◌⊎◌, ℕ, ◌<◌, ◌≤◌, arith, Bool, true, false, List, length, Option, Some, None, Result, Ok, Err, IfSome, inl, inr, refl, sym, ap, subst, ◌∙◌, cond}
 use Rattle.std.specs.Prelude.{⊤, slice_get}
 use Rattle.std.specs.List.{All}
 use Rattle.std.proofs.lemmas.Bool.{lt-leb}
@@ -20,6 +20,7 @@ use Rattle.dcr_laws.proofs.ToldLemmas.{a_run_is_done_lem}
 use Rattle.dcr_tape.specs.declared.tape.Store.{Store}
 use Rattle.dcr_tape.specs.declared.entry.TapeEntry.{TapeEntry}
 use Rattle.dcr_tape.specs.Opening.{most_records}
+use Rattle.dcr_cell.specs.Stored.{IsTaped}
 use Rattle.dcr_work.specs.Order.{IsInWorkerOrder}
 use Rattle.dcr_engine.specs.Laws.{OrderedIsTold}
 use Rattle.dcr_reading.specs.Accepted.{IsAcceptedGraph, IsAcceptedCover}
@@ -32,57 +33,60 @@ use Rattle.dcr_json.specs.Refusals.{CasesAreTheFormats, SpellsCase}
 use Rattle.dcr_json.specs.declared.case.CaseStop.{CaseStop}
 use Rattle.dcr_json.specs.declared.case.CaseStop.TheVariants as stop
 use Rattle.dcr_app.specs.Answers.{AnswersCase, IsDoneThroughout, IsToldByOne, TellsRun, WroteReport, is_silent, is_refused, has_failed, is_tape_refused}
-use Rattle.dcr_app.specs.Headline.{BeginsWith, Headline, IsDueFor, all_done, digest_of, rules_in}
-use Rattle.dcr_app.specs.Headline.{has_failed as some_failed}
+use Rattle.dcr_app.specs.Headline.{BeginsWith, Headline, digest_of, rules_in}
 use Rattle.dcr_app.specs.Outside.{IsSilent, WereLeft, Wrote}
 use Rattle.dcr_app.specs.Refusal.{refusal_line}
 use Rattle.dcr_app.specs.Stored.{Keeps, RanOver}
+use Rattle.dcr_app.specs.Telling.{IsDueBy, Telling, all_done, by_workers, disk_failed, door_failed, is_full}
 use Rattle.dcr_app.proofs.OutsideLemmas.{longer_than, were_left, wrote_at}
 
 -- ---- a run of the case
 
 -- with Done nothing failed
-pub no_fault_done : (J : List Entry) (due : Status) (text : List ℕ) (status : Status) (had took : Option (List ℕ)) → IsDueFor J due → Wrote due text status had took
-    → status ≡ Done → HasNoFault J
-no_fault_done J due text status had took (all_done none is) wrote done = none
-no_fault_done J due text status had took (some_failed some is) wrote done =
-    let same : Done ≡ due = (wrote_at due text status Done had took done tt wrote).0 in absurd (let wrong = same ∙ is in cc)
+pub no_fault_done : {fine full failed : Type 0} (due : Status) (text : List ℕ) (status : Status) (had took : Option (List ℕ)) → IsDueBy fine full failed due → Wrote due text status had took
+    → status ≡ Done → fine × (full → ⊥)
+no_fault_done due text status had took (all_done none room is) wrote done = (none, room)
+no_fault_done due text status had took (disk_failed some is) wrote done = absurd (let wrong = (wrote_at due text status Done had took done tt wrote).0 ∙ is in cc)
+no_fault_done due text status had took (is_full none full is) wrote done = absurd (let wrong = (wrote_at due text status Done had took done tt wrote).0 ∙ is in cc)
+no_fault_done due text status had took (door_failed none room failed is) wrote done = absurd (let wrong = (wrote_at due text status Done had took done tt wrote).0 ∙ is in cc)
 
 -- the headline of the run of a case that these bytes spell
-pub tells_run : {D : Type 0} (view : D → DiskView) (faults : D → ℕ) → CasesAreTheFormats → (workers : ℕ) (store : Bool) (before after_it : D) (bytes : List ℕ) (case : Spelled)
+pub tells_run : {D : Type 0} (view : D → DiskView) (faults : D → ℕ) → CasesAreTheFormats → (telling : Telling D) (store : Bool) (before after_it : D) (bytes : List ℕ) (case : Spelled)
     (old : List TapeEntry) (first : Store D) (had took : Option (List ℕ)) (status : Status) (closed : Closed) → case_in bytes ≡ Ok case → length old ≤ most_records
-    → BeginsWith store (digest_of case) (view before) old → RanOver view faults workers case old first after_it had took status closed
-    → Keeps store view faults (digest_of case) old closed.history.entries before after_it → (store ≡ false → HasNoFault closed.history.entries)
-    → TellsRun view faults workers store before after_it (Some bytes) ⊤ had took status closed
-tells_run view faults law workers store before after_it bytes case old first had took status closed spelled few begins over keeps unstored =
+    → BeginsWith store (digest_of case) (view before) old → RanOver view faults telling case old first after_it had took status closed
+    → Keeps store view faults (digest_of case) old closed.history.entries before after_it → (store ≡ false → HasNoFault closed.history.entries) → (IsTaped (Some first) → store ≡ true)
+    → TellsRun view faults telling store before after_it (Some bytes) ⊤ had took status closed
+tells_run view faults law telling store before after_it bytes case old first had took status closed spelled few begins over keeps unstored taped =
     let G = rules_in case in let C = case.cover.owned in let J = closed.history.entries in
-    let ran = over.ran in
+    let whole = over.whole in
     let Legal : Marking → Type 0 = λ M. IsLegal G C M J in record {
       case = case;
       old = old;
       few = few;
       possible = over.possible;
+      first = first;
+      taped = taped;
       headline = record {
         input = (bytes, refl, (law bytes case).0 spelled, tt);
-        history = (begins, ran.opening, subst Legal (sym ran.opening) ran.legal, no_fault);
-        sessions = record { all = ran.every_call; first = ran.begun_each; no_other = ran.no_other };
-        order = ran.in_order;
-        sites = (ran.marks ∙ ap (λ M. marks_at G C (after G M J)) (sym ran.opening), ran.waits ∙ ap (λ M. waits G.atoms (after G M J)) (sym ran.opening));
+        history = (begins, whole.opening, subst Legal (sym whole.opening) whole.legal, no_fault);
+        sessions = over.sessions;
+        order = over.order;
+        sites = (whole.marks ∙ ap (λ M. marks_at G C (after G M J)) (sym whole.opening), whole.waits ∙ ap (λ M. waits G.atoms (after G M J)) (sym whole.opening));
         report = over.report;
       };
       disk = keeps;
     }
   where
     no_fault : (status ≡ Done) ⊎ (store ≡ false) → HasNoFault closed.history.entries
-    no_fault (inl done) = no_fault_done closed.history.entries over.report.0 (report_text case.nested case.cover closed.opening closed.history.entries) status had took over.report.1 over.report.2 done
+    no_fault (inl done) = (no_fault_done over.report.0 (report_text case.nested case.cover closed.opening closed.history.entries) status had took over.report.1 over.report.2 done).0
     no_fault (inr off) = unstored off
 
 -- the report of a run is the report of a legal history
-pub report_of_run : (case : Spelled) (closed : Closed) → IsAcceptedGraph case.nested.version case.nested → IsAcceptedCover case.nested case.cover
-    → HasRoom (rules_in case).atoms closed.opening → length case.sessions ≤ 1024
-    → IsLegal (rules_in case) case.cover.owned closed.opening closed.history.entries → All (λ (entry : Entry). entry.session < length case.sessions) closed.history.entries
+pub report_of_run : (case : Spelled) (closed : Closed) (most : ℕ) → IsAcceptedGraph case.nested.version case.nested → IsAcceptedCover case.nested case.cover
+    → HasRoom (rules_in case).atoms closed.opening → most ≤ 1024
+    → IsLegal (rules_in case) case.cover.owned closed.opening closed.history.entries → All (λ (entry : Entry). entry.session < most) closed.history.entries
     → length closed.history.entries ≤ 200000 → IsReport (report_text case.nested case.cover closed.opening closed.history.entries) (length closed.history.entries)
-report_of_run case closed graph cover opening most legal sessions entries =
+report_of_run case closed most graph cover opening few legal sessions entries =
     record {
       nest = case.nested;
       cover = case.cover;
@@ -93,8 +97,8 @@ report_of_run case closed graph cover opening most legal sessions entries =
       room = opening;
       legal = legal;
       most_entries = entries;
-      sessions = All-weaker (λ (entry : Entry). entry.session < length case.sessions) (λ (entry : Entry). entry.session < 1024)
-          (λ entry below. omega (arith, below, most)) closed.history.entries sessions;
+      sessions = All-weaker (λ (entry : Entry). entry.session < most) (λ (entry : Entry). entry.session < 1024)
+          (λ entry below. omega (arith, below, few)) closed.history.entries sessions;
       text = refl;
       counted = refl;
     }
@@ -117,12 +121,29 @@ too_long : (bytes : List ℕ) → 16777216 < length bytes → case_in bytes ≡ 
 unfolding case_in
 too_long bytes more = stops _ _ stop.TooLong (ap (λ t. cond t (Ok bytes) (Err stop.TooLong)) (lt-leb (length bytes) 16777216 more))
 
+-- whether a refusal is want of memory
+is_memory : (why : CaseStop) → (why ≡ stop.NoMemory) ⊎ (why ≢ stop.NoMemory)
+is_memory stop.NoMemory = inl refl
+is_memory stop.TooLong = inr (λ e. cc)
+is_memory stop.NotJson = inr (λ e. cc)
+is_memory (stop.Shape part index) = inr (λ e. cc)
+is_memory (stop.Limit kind count) = inr (λ e. cc)
+is_memory (stop.EventName i) = inr (λ e. cc)
+is_memory (stop.Parent i) = inr (λ e. cc)
+is_memory (stop.MarkOnNest i) = inr (λ e. cc)
+is_memory (stop.RelationEnd i) = inr (λ e. cc)
+is_memory (stop.Clash a b) = inr (λ e. cc)
+is_memory (stop.SiteName i) = inr (λ e. cc)
+is_memory (stop.Owned i j) = inr (λ e. cc)
+is_memory (stop.Uncovered a) = inr (λ e. cc)
+is_memory (stop.CallLine k j) = inr (λ e. cc)
+
 -- ---- from the bytes to what the input had left
 
-module _ {D : Type 0} (view : D → DiskView) (faults : D → ℕ) (workers : ℕ) (store : Bool) (before end : D) where
+module _ {D : Type 0} (view : D → DiskView) (faults : D → ℕ) (telling : Telling D) (store : Bool) (before end : D) where
   pub answers_from : (left : Option (List ℕ)) (has_ended : Type 0) (bytes : List ℕ) (had took : Option (List ℕ)) (status : Status) (told_run : Option Closed)
-      → IfSome left (λ it. bytes ≡ it) → has_ended → AnswersCase view faults workers store before end (Some bytes) ⊤ had took status told_run
-      → AnswersCase view faults workers store before end left has_ended had took status told_run
+      → IfSome left (λ it. bytes ≡ it) → has_ended → AnswersCase view faults telling store before end (Some bytes) ⊤ had took status told_run
+      → AnswersCase view faults telling store before end left has_ended had took status told_run
   answers_from left has_ended bytes had took status None same ended (is_silent silent) = is_silent silent
   answers_from left has_ended bytes had took status None same ended (is_refused it) = is_refused (record {
     bytes = bytes;
@@ -151,6 +172,8 @@ module _ {D : Type 0} (view : D → DiskView) (faults : D → ℕ) (workers : �
     old = it.old;
     few = it.few;
     possible = it.possible;
+    first = it.first;
+    taped = it.taped;
     headline = record {
       input = (bytes, were_left left bytes same, subst (λ b. SpellsCase b it.case) (sym it.headline.input.1) it.headline.input.2, ended);
       history = it.headline.history;
@@ -164,7 +187,7 @@ module _ {D : Type 0} (view : D → DiskView) (faults : D → ℕ) (workers : �
 
   -- the case is the one that the bytes are read as
   pub read_as : CasesAreTheFormats → (bytes : List ℕ) (has_ended : Type 0) (had took : Option (List ℕ)) (status : Status) (closed : Closed)
-      → (it : TellsRun view faults workers store before end (Some bytes) has_ended had took status closed) → case_in bytes ≡ Ok it.case
+      → (it : TellsRun view faults telling store before end (Some bytes) has_ended had took status closed) → case_in bytes ≡ Ok it.case
   read_as law bytes has_ended had took status closed it = ap case_in it.headline.input.1 ∙ (law it.headline.input.0 it.case).1 it.headline.input.2
 
   -- ---- a refusal
@@ -172,21 +195,31 @@ module _ {D : Type 0} (view : D → DiskView) (faults : D → ℕ) (workers : �
   -- bytes that are refused, by the line of their refusal
   pub refused_by : (left : Option (List ℕ)) (has_ended : Type 0) (bytes : List ℕ) (why : CaseStop) (had took : Option (List ℕ)) (status : Status) (told_run : Option Closed)
       → told_run ≡ None → WereLeft left bytes → case_in bytes ≡ Err why → why ≢ stop.NoMemory
-      → IsSilent status had took ⊎ Wrote Refused (refusal_line why) status had took → AnswersCase view faults workers store before end left has_ended had took status told_run
+      → IsSilent status had took ⊎ Wrote Refused (refusal_line why) status had took → AnswersCase view faults telling store before end left has_ended had took status told_run
   refused_by left has_ended bytes why had took status told_run none read refuses named (inl silent) =
-      subst (λ t. AnswersCase view faults workers store before end left has_ended had took status t) (sym none) (is_silent silent)
+      subst (λ t. AnswersCase view faults telling store before end left has_ended had took status t) (sym none) (is_silent silent)
   refused_by left has_ended bytes why had took status told_run none read refuses named (inr wrote) =
-      subst (λ t. AnswersCase view faults workers store before end left has_ended had took status t) (sym none)
+      subst (λ t. AnswersCase view faults telling store before end left has_ended had took status t) (sym none)
       (is_refused (record { bytes = bytes; read = read; why = why; refuses = refuses; named = named; line = wrote }))
 
   pub silent_run : (left : Option (List ℕ)) (has_ended : Type 0) (had took : Option (List ℕ)) (status : Status) (told_run : Option Closed)
-      → told_run ≡ None → IsSilent status had took → AnswersCase view faults workers store before end left has_ended had took status told_run
+      → told_run ≡ None → IsSilent status had took → AnswersCase view faults telling store before end left has_ended had took status told_run
   silent_run left has_ended had took status told_run none silent =
-      subst (λ t. AnswersCase view faults workers store before end left has_ended had took status t) (sym none) (is_silent silent)
+      subst (λ t. AnswersCase view faults telling store before end left has_ended had took status t) (sym none) (is_silent silent)
+
+  -- bytes that are refused, or for which memory ran out
+  pub stopped_run : (left : Option (List ℕ)) (has_ended : Type 0) (bytes : List ℕ) (why : CaseStop) (had took : Option (List ℕ)) (status : Status) (told_run : Option Closed)
+      → told_run ≡ None → WereLeft left bytes → (why ≢ stop.NoMemory → case_in bytes ≡ Err why)
+      → (why ≢ stop.NoMemory → IsSilent status had took ⊎ Wrote Refused (refusal_line why) status had took) → (why ≡ stop.NoMemory → IsSilent status had took)
+      → AnswersCase view faults telling store before end left has_ended had took status told_run
+  stopped_run left has_ended bytes why had took status told_run none read refuses line silent = elim (is_memory why) [
+    | inl e ↦ silent_run left has_ended had took status told_run none (silent e)
+    | inr e ↦ refused_by left has_ended bytes why had took status told_run none read (refuses e) e (line e)
+  ]
 
   pub too_long_run : (left : Option (List ℕ)) (has_ended : Type 0) (had took : Option (List ℕ)) (status : Status) (told_run : Option Closed)
       → told_run ≡ None → IfSome left (λ bytes. 16777216 < length bytes) → IsSilent status had took ⊎ Wrote Refused (refusal_line stop.TooLong) status had took
-      → AnswersCase view faults workers store before end left has_ended had took status told_run
+      → AnswersCase view faults telling store before end left has_ended had took status told_run
   too_long_run None has_ended had took status told_run none more line =
       let it = longer_than 16777216 in refused_by None has_ended it.0 stop.TooLong had took status told_run none tt (too_long it.0 it.1) (λ e. absurd cc) line
   too_long_run (Some bytes) has_ended had took status told_run none more line =
@@ -205,14 +238,14 @@ one_case bytes case other is also = ap (case_or case) (sym also ∙ is)
 -- ---- the told run
 
 -- the history of a run that is told in the order of one worker, where nothing failed
-told_headline : OrderedIsTold → (workers : ℕ) (store : Bool) (disk : DiskView) (case : Spelled) (old : List TapeEntry) (left : Option (List ℕ)) (has_ended : Type 0)
-    (had took : Option (List ℕ)) (status : Status) (closed : Closed) → Headline workers store disk case old left has_ended had took status closed
+told_headline : {D : Type 0} → OrderedIsTold → (workers : ℕ) (store : Bool) (disk : DiskView) (first : Store D) (case : Spelled) (old : List TapeEntry) (left : Option (List ℕ)) (has_ended : Type 0)
+    (had took : Option (List ℕ)) (status : Status) (closed : Closed) → Headline (by_workers workers) store disk first case old left has_ended had took status closed
     → IsInWorkerOrder 1 closed.history.entries → HasNoFault closed.history.entries
     → closed.history.entries ≡ told (rules_in case) case.cover.owned closed.opening case.sessions
-told_headline ordered workers store disk case old left has_ended had took status closed it in_order none =
+told_headline ordered workers store disk first case old left has_ended had took status closed it in_order none =
     ordered (rules_in case) case.cover.owned closed.opening case.sessions closed.history.entries it.history.2 none in_order (it.sessions.all none) it.sessions.no_other
 
-entry_at : (P : Entry → Type 0) (J : List Entry) (b : ℕ) (y : Entry) → All P J → slice_get J b ≡ Some y → P y
+pub entry_at : (P : Entry → Type 0) (J : List Entry) (b : ℕ) (y : Entry) → All P J → slice_get J b ≡ Some y → P y
 entry_at P J b y all here = subst P (get_or_from_slice_get J b y y here) (all b y (slice_get_within J b y here))
 
 -- where there is one session, there is one order
@@ -223,20 +256,20 @@ one_session J only a b x y here there less same =
 module _ {D : Type 0} (view : D → DiskView) (faults : D → ℕ) (law : CasesAreTheFormats) (ordered : OrderedIsTold) (workers : ℕ) (store : Bool) (before end : D) (has_ended : Type 0)
     (had took : Option (List ℕ)) (status : Status) where
   same_case : (bytes : List ℕ) (case : Spelled) (closed : Closed) → case_in bytes ≡ Ok case
-      → (it : TellsRun view faults workers store before end (Some bytes) has_ended had took status closed) → it.case ≡ case
-  same_case bytes case closed is it = one_case bytes case it.case is (read_as view faults workers store before end law bytes has_ended had took status closed it)
+      → (it : TellsRun view faults (by_workers workers) store before end (Some bytes) has_ended had took status closed) → it.case ≡ case
+  same_case bytes case closed is it = one_case bytes case it.case is (read_as view faults (by_workers workers) store before end law bytes has_ended had took status closed it)
 
-  pub told_by_one : (left : Option (List ℕ)) (told_run : Option Closed) → AnswersCase view faults workers store before end left has_ended had took status told_run
+  pub told_by_one : (left : Option (List ℕ)) (told_run : Option Closed) → AnswersCase view faults (by_workers workers) store before end left has_ended had took status told_run
       → IsToldByOne workers left told_run
   told_by_one None told_run it = tt
   told_by_one (Some bytes) None it = λ case is. tt
   told_by_one (Some bytes) (Some closed) it = λ case is one none.
       let J = closed.history.entries in
-      told_headline ordered workers store (view before) it.case it.old (Some bytes) has_ended had took status closed it.headline
+      told_headline ordered workers store (view before) it.first it.case it.old (Some bytes) has_ended had took status closed it.headline
       (subst (λ w. IsInWorkerOrder w J) one it.headline.order) none
       ∙ ap (λ (c : Spelled). told (rules_in c) c.cover.owned closed.opening c.sessions) (same_case bytes case closed is it)
 
-  pub done_throughout : (left : Option (List ℕ)) (told_run : Option Closed) → AnswersCase view faults workers store before end left has_ended had took status told_run
+  pub done_throughout : (left : Option (List ℕ)) (told_run : Option Closed) → AnswersCase view faults (by_workers workers) store before end left has_ended had took status told_run
       → IsDoneThroughout left told_run
   done_throughout None told_run it = tt
   done_throughout (Some bytes) None it = λ case events executions is one spell. tt
@@ -246,7 +279,7 @@ module _ {D : Type 0} (view : D → DiskView) (faults : D → ℕ) (law : CasesA
       let AllDone : List Entry → Type 0 = λ K. All (λ (entry : Entry). entry.outcome ≡ outcome.Done) K in
       let Below : ℕ → Type 0 = λ n. All (λ (entry : Entry). entry.session < n) J in
       let only : length it.case.sessions ≡ 1 = ap (λ (c : Spelled). length c.sessions) same ∙ ap (λ (s : List (List Call)). length s) one in
-      let history = told_headline ordered workers store (view before) it.case it.old (Some bytes) has_ended had took status closed it.headline
+      let history = told_headline ordered workers store (view before) it.first it.case it.old (Some bytes) has_ended had took status closed it.headline
       (one_session J (subst Below only it.headline.sessions.no_other)) none
       ∙ ap (λ (c : Spelled). told (rules_in c) c.cover.owned M c.sessions) same ∙ ap (told (rules_in case) case.cover.owned M) one in
       subst AllDone (sym history) (a_run_is_done_lem (rules_in case) case.cover.owned M events executions run spell)

@@ -16,8 +16,9 @@ use Rattle.dcr_tape.specs.declared.entry.TapeEntry.{TapeEntry}
 use Rattle.dcr_tape.specs.declared.tape.Tape.{Tape}
 use Rattle.dcr_tape.proofs.OpenLemmas.{made_holds}
 use Rattle.dcr_cell.specs.Stored.{StandsForSome, TapeStands, executions, failed_executions, kept_for, tried_for}
-use Rattle.dcr_app.specs.Headline.{IsDueFor, StoodFor, all_done, has_failed}
+use Rattle.dcr_app.specs.Headline.{StoodFor}
 use Rattle.dcr_app.specs.Stored.{HasKept, StandsStill}
+use Rattle.dcr_app.specs.Telling.{IsDueBy, all_done, disk_failed, door_failed, is_full}
 
 -- ---- contents
 
@@ -146,9 +147,11 @@ module _ {D : Type 0} (view : D → DiskView) (faults : D → ℕ) (one : OneLis
     }
 
 -- whether an execution failed, by the status that is due
-pub either_way : (J : List Entry) (due : Status) → IsDueFor J due → HasNoFault J ⊎ (¬ HasNoFault J)
-either_way J due (all_done none is) = inl none
-either_way J due (has_failed some is) = inr some
+pub either_way : {fine full failed : Type 0} (due : Status) → IsDueBy fine full failed due → fine ⊎ (fine → ⊥)
+either_way due (disk_failed some is) = inr some
+either_way due (is_full none full is) = inl none
+either_way due (door_failed none room failed is) = inl none
+either_way due (all_done none room is) = inl none
 
 -- ---- a disk that was not opened as a tape
 

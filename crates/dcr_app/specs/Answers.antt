@@ -4,7 +4,7 @@ use Rattle.std.specs.Io.KnownBytes.{Appends}
 use Rattle.std.specs.List.{All}
 use Rattle.dcr_base.specs.Disk.{DiskView}
 use Rattle.dcr_base.specs.declared.status.Status.{Status}
-use Rattle.dcr_base.specs.declared.status.Status.TheVariants.{Done, Usage, Refused, NoMemory, DiskFault, Invalid, TapeRefused}
+use Rattle.dcr_base.specs.declared.status.Status.TheVariants.{Done, Usage, Refused, NoMemory, DiskFault, Invalid, Full, TapeRefused}
 use Rattle.dcr_journal.specs.Run.{HasNoFault, told}
 use Rattle.dcr_journal.specs.declared.call.Entry.{Entry}
 use Rattle.dcr_journal.specs.declared.call.Outcome.TheVariants as outcome
@@ -14,6 +14,8 @@ use Rattle.dcr_tape.specs.Opening.{most_records}
 use Rattle.dcr_tape.specs.Tape.{StandsFor}
 use Rattle.dcr_tape.specs.declared.cause.TapeCause.{TapeCause}
 use Rattle.dcr_tape.specs.declared.entry.TapeEntry.{TapeEntry}
+use Rattle.dcr_tape.specs.declared.tape.Store.{Store}
+use Rattle.dcr_cell.specs.Stored.{IsTaped}
 use Rattle.dcr_cluster.specs.Opening.{ArePossible}
 use Rattle.dcr_json.specs.Case.{case_in}
 use Rattle.dcr_json.specs.Judged.{Spelled}
@@ -30,21 +32,25 @@ use Rattle.dcr_app.specs.Headline.{Headline, cluster_in, digest_of, rules_in}
 use Rattle.dcr_app.specs.Outside.{WereLeft, Wrote, IsSilent}
 use Rattle.dcr_app.specs.Refusal.{refusal_line}
 use Rattle.dcr_app.specs.Stored.{Keeps, RefusesTape, tape_line}
+use Rattle.dcr_app.specs.Telling.{Doors, Telling, by_workers, over_links}
 use Rattle.dcr_app.specs.declared.app.End.{End}
 use Rattle.dcr_app.specs.declared.command.Command.{Command}
-use Rattle.dcr_app.specs.declared.command.Command.TheVariants.{Run, Replay}
+use Rattle.dcr_app.specs.declared.command.Command.TheVariants.{Run, Serve, Replay}
 
--- ---- `run`
+-- ---- `run` and `serve`
 
 -- A run is told: it is the headline's, and the disk has what it did. With a store it goes on from these executions, which
 -- can all be done, each after those before it.
-pub record TellsRun {D : Type 0} (view : D → DiskView) (faults : D → ℕ) (workers : ℕ) (store : Bool) (before after : D) (left : Option (List ℕ)) (has_ended : Type 0)
+pub record TellsRun {D : Type 0} (view : D → DiskView) (faults : D → ℕ) (telling : Telling D) (store : Bool) (before after : D) (left : Option (List ℕ)) (has_ended : Type 0)
     (had took : Option (List ℕ)) (status : Status) (closed : Closed) : Type 0 where
   pub case : Spelled
   pub old : List TapeEntry
   pub few : length old ≤ most_records
   pub possible : ArePossible (cluster_in case old) (length old)
-  pub headline : Headline workers store (view before) case old left has_ended had took status closed
+  pub first : Store D
+  -- it is a tape where there is a store
+  pub taped : IsTaped (Some first) → store ≡ true
+  pub headline : Headline telling store (view before) first case old left has_ended had took status closed
   pub disk : Keeps store view faults (digest_of case) old closed.history.entries before after
 
 -- the bytes that were read are no case, and the line of the first refusal was due
@@ -80,11 +86,11 @@ pub data TellsNone (store : Bool) (before after : DiskView) (left had took : Opt
   is_tape_refused : store ≡ true → IsTapeRefused before after left had took status → TellsNone store before after left had took status
 
 -- A run that is told is the headline's. Where none is, nothing was written, or the bytes or the tape are refused.
-abbrev pub AnswersCase : {D : Type 0} → (D → DiskView) → (D → ℕ) → ℕ → Bool → D → D → Option (List ℕ) → Type 0 → Option (List ℕ) → Option (List ℕ) → Status
+abbrev pub AnswersCase : {D : Type 0} → (D → DiskView) → (D → ℕ) → Telling D → Bool → D → D → Option (List ℕ) → Type 0 → Option (List ℕ) → Option (List ℕ) → Status
     → Option Closed → Type 0
-AnswersCase view faults workers store before after left has_ended had took status (Some closed) =
-    TellsRun view faults workers store before after left has_ended had took status closed
-AnswersCase view faults workers store before after left has_ended had took status None = TellsNone store (view before) (view after) left had took status
+AnswersCase view faults telling store before after left has_ended had took status (Some closed) =
+    TellsRun view faults telling store before after left has_ended had took status closed
+AnswersCase view faults telling store before after left has_ended had took status None = TellsNone store (view before) (view after) left had took status
 
 -- The run of a single worker in which nothing failed is the told one: the sessions one after the other. And a case of a
 -- single session that spells a run of the graph from where it begins, each event at a site that owns it, is answered by
@@ -108,18 +114,25 @@ WroteReport had took told_run = IfSome told_run (λ closed. (text : List ℕ) ×
 abbrev pub IsOr : Status → Status → Type 0
 IsOr due status = (status ≡ due) ⊎ (status ≡ NoMemory)
 
+-- what the run of a case ends with where nothing fails, and the serving of one
+abbrev pub EndsRun : Status → Type 0
+EndsRun status = IsOr Done status
+
+abbrev pub EndsServing : Status → Type 0
+EndsServing status = (status ≡ Full) ⊎ IsOr Done status
+
 -- A disk that is empty or stands for executions that can be done is gone on from; one that is refused as a tape is refused.
-pub record IsAnsweredTape (case : Spelled) (content : List ℕ) (status : Status) : Type 0 where
-  pub empty : content ≡ [] → IsOr Done status
+pub record IsAnsweredTape (IsDone : Status → Type 0) (case : Spelled) (content : List ℕ) (status : Status) : Type 0 where
+  pub empty : content ≡ [] → IsDone status
   pub goes_on : (old : List TapeEntry) → StandsFor (digest_of case) old content → length old ≤ most_records → ArePossible (cluster_in case old) (length old)
-      → IsOr Done status
+      → IsDone status
   pub refused : (cause : TapeCause) → content ≢ [] → RefusesTape case content cause → IsOr TapeRefused status
 
 -- a case is done, where its tape is not refused, and other bytes are refused
-abbrev pub IsAnsweredCase : Bool → DiskView → Result Spelled CaseStop → Status → Type 0
-IsAnsweredCase store disk (Err why) status = IsOr Refused status
-IsAnsweredCase false disk (Ok case) status = IsOr Done status
-IsAnsweredCase true disk (Ok case) status = IsTrue disk.told → IsAnsweredTape case disk.content status
+abbrev pub IsAnsweredCase : (Status → Type 0) → Bool → DiskView → Result Spelled CaseStop → Status → Type 0
+IsAnsweredCase IsDone store disk (Err why) status = IsOr Refused status
+IsAnsweredCase IsDone false disk (Ok case) status = IsDone status
+IsAnsweredCase IsDone true disk (Ok case) status = IsTrue disk.told → IsAnsweredTape IsDone case disk.content status
 
 -- ---- `replay`
 
@@ -179,23 +192,36 @@ IsAnsweredReport bytes status =
 -- whether the command keeps its executions in a store
 abbrev pub IsStored : Option Command → Type 0
 IsStored (Some (Run workers true)) = Unit {0}
+IsStored (Some (Serve sessions workers true)) = Unit {0}
 IsStored command = ⊥
 
--- What the program answers: words that are no command by the line `usage`; a case file by its run or its refusal; a
--- report by its verdict. `before` is the disk at entry. `left` is what the input had left at entry, where it tells that, and
--- `has_ended` that it has come to its end; `had` is what the output had taken at entry, and `took` what it has taken now,
--- where it tells that.
-abbrev pub Answers : {D : Type 0} → (D → DiskView) → (D → ℕ) → Option Command → D → Option (List ℕ) → Type 0 → Option (List ℕ) → Option (List ℕ) → End D → Type 0
-Answers view faults None before left has_ended had took end = (end.closed ≡ None) × Wrote Usage (codes "usage\n") end.status had took
-Answers view faults (Some (Run workers store)) before left has_ended had took end =
-    AnswersCase view faults workers store before end.disk left has_ended had took end.status end.closed
-Answers view faults (Some Replay) before left has_ended had took end = (end.closed ≡ None) × AnswersReport left had took end.status
+-- whether the command serves sessions over links
+abbrev pub IsServing : Option Command → Type 0
+IsServing (Some (Serve sessions workers store)) = Unit {0}
+IsServing command = ⊥
+
+-- What the program answers: words that are no command by the line `usage`; a case file by its run, that of its own sessions or
+-- of those over links, or its refusal; a report by its verdict. `doors` is what the door and its links tell, `before` is the
+-- disk at entry and `door` the door. `left` is what the input had left at entry, where it tells that, and `has_ended` that it
+-- has come to its end; `had` is what the output had taken at entry, and `took` what it has taken now, where it tells that.
+abbrev pub Answers : {D B L R : Type 0} → (D → DiskView) → (D → ℕ) → Doors B L R → Option Command → B → D → Option (List ℕ) → Type 0 → Option (List ℕ) → Option (List ℕ) → End B D L R → Type 0
+Answers view faults doors None door before left has_ended had took end = (end.closed ≡ None) × Wrote Usage (codes "usage\n") end.status had took
+Answers view faults doors (Some (Run workers store)) door before left has_ended had took end =
+    AnswersCase view faults (by_workers workers) store before end.disk left has_ended had took end.status end.closed
+Answers view faults doors (Some (Serve sessions workers store)) door before left has_ended had took end =
+    AnswersCase view faults (over_links doors door end.door sessions end.ends.items) store before end.disk left has_ended had took end.status end.closed
+Answers view faults doors (Some Replay) door before left has_ended had took end = (end.closed ≡ None) × AnswersReport left had took end.status
+
+-- the line that was written says why the bytes that were read are no case
+abbrev pub RefusesCase : Option (List ℕ) → Option (List ℕ) → Option (List ℕ) → Type 0
+RefusesCase left had took = (bytes : List ℕ) × WereLeft left bytes
+    × ((why : CaseStop) × (case_in bytes ≡ Err why) × (why ≢ stop.NoMemory) × Appends had took (refusal_line why))
 
 -- The line that was written says why the input is refused: the first refusal of a case that holds, or that a report has
 -- too many bytes. Words that are no command refuse nothing.
 abbrev pub Refuses : Option Command → Option (List ℕ) → Option (List ℕ) → Option (List ℕ) → Type 0
 Refuses None left had took = ⊥
-Refuses (Some (Run workers store)) left had took = (bytes : List ℕ) × WereLeft left bytes
-    × ((why : CaseStop) × (case_in bytes ≡ Err why) × (why ≢ stop.NoMemory) × Appends had took (refusal_line why))
+Refuses (Some (Run workers store)) left had took = RefusesCase left had took
+Refuses (Some (Serve sessions workers store)) left had took = RefusesCase left had took
 Refuses (Some Replay) left had took =
     IfSome left (λ bytes. 268435456 < length bytes) × Appends had took (refusal_line stop.TooLong)

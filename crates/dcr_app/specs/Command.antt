@@ -1,14 +1,22 @@
 -- The command that the words of the command line spell.
-use Rattle.std.specs.Prelude.{ℕ, ◌<◌, ◌≤◌, ltb, ◌&&◌, Bool, true, false, List, [], ◌∷◌, map, codes, decimal, String, string_bytes, Option, Some, None, if◌then◌else◌}
+use Rattle.std.specs.Prelude.{ℕ, ◌<◌, ◌≤◌, ◌+◌, ltb, ◌&&◌, Bool, true, false, List, [], ◌∷◌, map, codes, decimal, String, string_bytes, Option, Some, None, if◌then◌else◌}
 use Rattle.std.specs.Str.{bytes_eq}
 use Rattle.std.specs.declared.alloc.Global.{Global}
 use Rattle.dcr_set.specs.Least.{least}
 use Rattle.dcr_app.specs.declared.command.Command.{Command}
-use Rattle.dcr_app.specs.declared.command.Command.TheVariants.{Run, Replay}
+use Rattle.dcr_app.specs.declared.command.Command.TheVariants.{Run, Serve, Replay}
+use Rattle.dcr_app.specs.declared.way.Way.{Way}
+use Rattle.dcr_app.specs.declared.way.Way.TheVariants as way
 
--- the number of workers that a word spells in decimal, 1 to 64
-unfoldable pub workers_in : List ℕ → Option ℕ
-workers_in word = least 65 (λ n. ltb 0 n && bytes_eq (decimal n) word)
+-- the number from 1 to this one that a word spells in decimal
+unfoldable pub number_in : ℕ → List ℕ → Option ℕ
+number_in most word = least (most + 1) (λ n. ltb 0 n && bytes_eq (decimal n) word)
+
+abbrev pub workers_in : List ℕ → Option ℕ
+workers_in word = number_in 64 word
+
+abbrev pub sessions_in : List ℕ → Option ℕ
+sessions_in word = number_in 1024 word
 
 -- a run by so many workers, where a number of them is spelled
 abbrev pub run_by : Bool → Option ℕ → Option Command
@@ -24,6 +32,23 @@ run_with (word ∷ number ∷ last ∷ []) =
     if bytes_eq word (codes "--workers") && bytes_eq last (codes "--store") then run_by true (workers_in number) else None
 run_with words = None
 
+-- a serving of so many sessions by so many workers, where numbers of them are spelled
+abbrev pub serve_by : Bool → Option ℕ → Option ℕ → Option Command
+serve_by store (Some sessions) (Some workers) = Some (Serve sessions workers store)
+serve_by store sessions workers = None
+
+-- the words that stand before the two numbers behind `serve`
+abbrev pub before_numbers : List ℕ → List ℕ → Bool
+before_numbers first second = bytes_eq first (codes "--sessions") && bytes_eq second (codes "--workers")
+
+-- what stands behind `serve`: `--sessions` and a number, `--workers` and a number, and then `--store` or nothing
+abbrev pub serve_with : List (List ℕ) → Option Command
+serve_with (first ∷ sessions ∷ second ∷ workers ∷ []) =
+    if before_numbers first second then serve_by false (sessions_in sessions) (workers_in workers) else None
+serve_with (first ∷ sessions ∷ second ∷ workers ∷ last ∷ []) =
+    if before_numbers first second && bytes_eq last (codes "--store") then serve_by true (sessions_in sessions) (workers_in workers) else None
+serve_with words = None
+
 -- nothing may stand behind `replay`
 abbrev pub replay_with : List (List ℕ) → Option Command
 replay_with [] = Some Replay
@@ -34,12 +59,24 @@ abbrev pub command_spelled : List (List ℕ) → Option Command
 command_spelled [] = None
 command_spelled (word ∷ rest) =
     if bytes_eq word (codes "run") then run_with rest
-    else (if bytes_eq word (codes "replay") then replay_with rest else None)
+    else (if bytes_eq word (codes "serve") then serve_with rest
+    else (if bytes_eq word (codes "replay") then replay_with rest else None))
 
 abbrev pub command_in : List (String Global) → Option Command
 command_in words = command_spelled (map string_bytes words)
 
--- a run is by 1 to 64 workers
-abbrev pub HasWorkers : Command → Type 0
-HasWorkers (Run workers store) = (0 < workers) × (workers ≤ 64)
-HasWorkers Replay = Unit {0}
+-- 1 to 64 workers and 1 to 1,024 sessions
+abbrev pub AreWorkers : ℕ → Type 0
+AreWorkers workers = (0 < workers) × (workers ≤ 64)
+
+abbrev pub AreSessions : ℕ → Type 0
+AreSessions sessions = (0 < sessions) × (sessions ≤ 1024)
+
+abbrev pub HasNumbers : Command → Type 0
+HasNumbers (Run workers store) = AreWorkers workers
+HasNumbers (Serve sessions workers store) = AreSessions sessions × AreWorkers workers
+HasNumbers Replay = Unit {0}
+
+abbrev pub IsWay : Way → Type 0
+IsWay (way.Run workers) = AreWorkers workers
+IsWay (way.Serve sessions workers) = AreSessions sessions × AreWorkers workers

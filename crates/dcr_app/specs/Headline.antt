@@ -1,25 +1,24 @@
 -- The headline: the run that `run` tells of is the journal of one run of the whole graph.
-use Rattle.std.specs.Prelude.{◌≡◌, ◌⊎◌, ℕ, ◌<◌, Bool, true, false, IsTrue, List, [], length, take, slice_index_or, Option}
-use Rattle.std.specs.List.{All}
+use Rattle.std.specs.Prelude.{◌≡◌, ◌⊎◌, ℕ, Bool, true, false, IsTrue, List, [], Option}
 use Rattle.sha2.specs.Sha256.{sha256}
 use Rattle.dcr_base.specs.Disk.{DiskView}
 use Rattle.dcr_base.specs.declared.status.Status.{Status}
-use Rattle.dcr_base.specs.declared.status.Status.TheVariants.{Done, DiskFault}
+use Rattle.dcr_base.specs.declared.status.Status.TheVariants.{Done}
 use Rattle.dcr_graph.specs.Cause.{waits}
 use Rattle.dcr_graph.specs.Rules.{Rules}
 use Rattle.dcr_nest.specs.FlatRelation.{flat_relation}
-use Rattle.dcr_journal.specs.Run.{after, calls_of, marks_at, HasNoFault, IsLegal}
-use Rattle.dcr_journal.specs.declared.call.Call.{Call}
+use Rattle.dcr_journal.specs.Run.{after, marks_at, HasNoFault, IsLegal}
 use Rattle.dcr_journal.specs.declared.call.Entry.{Entry}
 use Rattle.dcr_journal.specs.declared.closed.Closed.{Closed}
 use Rattle.dcr_tape.specs.Tape.{StandsFor}
 use Rattle.dcr_tape.specs.declared.entry.TapeEntry.{TapeEntry}
+use Rattle.dcr_tape.specs.declared.tape.Store.{Store}
 use Rattle.dcr_cell.specs.ClusterId.{ClusterId, begun}
-use Rattle.dcr_work.specs.Order.{IsInWorkerOrder}
 use Rattle.dcr_json.specs.Judged.{Spelled}
 use Rattle.dcr_json.specs.Refusals.{SpellsCase}
 use Rattle.dcr_report.specs.Report.{case_text, report_text}
 use Rattle.dcr_app.specs.Outside.{WereLeft, Wrote}
+use Rattle.dcr_app.specs.Telling.{IsDueBy, Telling}
 
 -- ---- the case
 
@@ -48,23 +47,16 @@ BeginsWith false digest disk old = old ≡ []
 
 -- ---- the run
 
--- the history has a beginning of each session's calls, in order, each once, and no entry of another session; where nothing
--- failed it has them all
-pub record HasCalls (sessions : List (List Call)) (J : List Entry) : Type 0 where
-  pub all : HasNoFault J → (k : ℕ) → calls_of k J ≡ slice_index_or sessions k []
-  pub first : (k : ℕ) → (count : ℕ) × (calls_of k J ≡ take count (slice_index_or sessions k []))
-  pub no_other : All (λ (entry : Entry). entry.session < length sessions) J
+-- the status with which the report of a history is due
+abbrev pub IsDueFor : {D : Type 0} → Telling D → List Entry → Status → Type 0
+IsDueFor telling J due = IsDueBy (HasNoFault J) (telling.full J) telling.door_failed due
 
--- the status with which the report of a history is due: `DiskFault` exactly where an execution failed
-pub data IsDueFor (J : List Entry) (due : Status) : Type 0 where
-  all_done : HasNoFault J → due ≡ Done → IsDueFor J due
-  has_failed : ¬ HasNoFault J → due ≡ DiskFault → IsDueFor J due
-
--- The journal of one run of the whole graph, of the case that was read, by so many workers, with a store or without one;
--- with one it goes on from the executions `old`. `disk` is the disk at entry. `left` is what the input had left at entry,
+-- The journal of one run of the whole graph, of the case that was read, with a store or without one; with one it goes on
+-- from the executions `old`. `telling` is what the command tells of its own: `by_workers` of `run`, `over_links` of `serve`.
+-- `disk` is the disk at entry, and `first` the store that the run began with. `left` is what the input had left at entry,
 -- where it tells that, and `has_ended` that it has come to its end; `had` is what the output had taken at entry, and `took`
 -- what it has taken now, where it tells that; `status` is how the program ended.
-pub record Headline (workers : ℕ) (store : Bool) (disk : DiskView) (case : Spelled) (old : List TapeEntry) (left : Option (List ℕ)) (has_ended : Type 0)
+pub record Headline {D : Type 0} (telling : Telling D) (store : Bool) (disk : DiskView) (first : Store D) (case : Spelled) (old : List TapeEntry) (left : Option (List ℕ)) (has_ended : Type 0)
     (had took : Option (List ℕ)) (status : Status) (closed : Closed) : Type 0 where
   -- 1. The bytes that the input had left at entry spell the case, and none is left.
   pub input : (bytes : List ℕ) × WereLeft left bytes × SpellsCase bytes case × has_ended
@@ -75,13 +67,15 @@ pub record Headline (workers : ℕ) (store : Bool) (disk : DiskView) (case : Spe
       × (closed.opening ≡ begun (cluster_in case old))
       × IsLegal (rules_in case) case.cover.owned closed.opening closed.history.entries
       × ((status ≡ Done) ⊎ (store ≡ false) → HasNoFault closed.history.entries)
-  -- 3. It has every call of each session, once and in order, and no entry of another session.
-  pub sessions : HasCalls case.sessions closed.history.entries
-  -- 4. Of two sessions of one worker every entry of the earlier one stands before every entry of the later one.
-  pub order : IsInWorkerOrder workers closed.history.entries
+  -- 3. It has every call of each session, once and in order, and no entry of another session (`HasCalls`). Sessions over
+  -- links have those that their links asked for, and each was answered by its entries (`ServedIn`).
+  pub sessions : telling.sessions first case closed.history.entries
+  -- 4. Of two sessions of one worker every entry of the earlier one stands before every entry of the later one. Of sessions
+  -- over links no order is claimed.
+  pub order : telling.order closed.history.entries
   -- 5. Every site's marks are the projection of the marking after the history, and the verdict is that marking's.
   pub sites : (closed.marks ≡ marks_at (rules_in case) case.cover.owned (after (rules_in case) closed.opening closed.history.entries))
       × (closed.waits ≡ waits (rules_in case).atoms (after (rules_in case) closed.opening closed.history.entries))
   -- 6. What the output took is the report of this history.
-  pub report : (due : Status) × IsDueFor closed.history.entries due
+  pub report : (due : Status) × IsDueFor telling closed.history.entries due
       × Wrote due (report_text case.nested case.cover closed.opening closed.history.entries) status had took

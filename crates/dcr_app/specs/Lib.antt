@@ -3,4 +3,5 @@ pub mod Command
 pub mod Headline
 pub mod Outside
 pub mod Stored
+pub mod Telling
 pub mod Refusal

@@ -2,9 +2,9 @@
 use Rattle.std.specs.Prelude.{◌≡◌, ◌⊎◌, ℕ, ◌<◌, ◌≤◌, List, [], length, take, drop, Option, Some, None, IfSome, ⊤}
 use Rattle.std.specs.Io.KnownBytes.{Appends}
 use Rattle.dcr_base.specs.declared.status.Status.{Status}
-use Rattle.dcr_base.specs.declared.status.Status.TheVariants.{Done, Usage, Refused, ReadFault, WriteFault, NoMemory, DiskFault, Invalid, TapeRefused}
+use Rattle.dcr_base.specs.declared.status.Status.TheVariants.{Done, Usage, Refused, ReadFault, WriteFault, NoMemory, DiskFault, Invalid, Full, TapeRefused, DoorFault}
 use Rattle.dcr_app.specs.declared.command.Command.{Command}
-use Rattle.dcr_app.specs.declared.command.Command.TheVariants.{Run, Replay}
+use Rattle.dcr_app.specs.declared.command.Command.TheVariants.{Run, Serve, Replay}
 
 -- ---- what was read
 
@@ -20,6 +20,7 @@ TookAtMost most before after = IfSome before (λ left. (k : ℕ) × (k ≤ most)
 abbrev pub most_read : Option Command → ℕ
 most_read None = 0
 most_read (Some (Run workers store)) = 16777217
+most_read (Some (Serve sessions workers store)) = 16777217
 most_read (Some Replay) = 268435457
 
 -- ---- what was written
@@ -48,7 +49,17 @@ IsDue Usage = ⊤
 IsDue Refused = ⊤
 IsDue DiskFault = ⊤
 IsDue Invalid = ⊤
+IsDue Full = ⊤
 IsDue TapeRefused = ⊤
+IsDue DoorFault = ⊤
 IsDue ReadFault = ⊥
 IsDue WriteFault = ⊥
 IsDue NoMemory = ⊥
+
+-- the statuses with which a report may be due
+abbrev pub IsOfReport : Status → Type 0
+IsOfReport Done = ⊤
+IsOfReport DiskFault = ⊤
+IsOfReport Full = ⊤
+IsOfReport DoorFault = ⊤
+IsOfReport status = ⊥

@@ -19,11 +19,12 @@ use Rattle.dcr_tape.specs.declared.tape.Store.TheVariants.{Off, On}
 use Rattle.dcr_cluster.specs.Opening.{ArePossible, IsFirstBad, Refused}
 use Rattle.dcr_cluster.specs.declared.refused.OpenCause.{OpenCause}
 use Rattle.dcr_cluster.specs.declared.refused.OpenCause.TheVariants as opening
-use Rattle.dcr_engine.specs.Ran.{HasRun}
+use Rattle.dcr_engine.specs.Ran.{IsWhole}
 use Rattle.dcr_json.specs.Judged.{Spelled}
 use Rattle.dcr_report.specs.Report.{report_text}
 use Rattle.dcr_app.specs.Headline.{IsDueFor, cluster_in, digest_of}
 use Rattle.dcr_app.specs.Outside.{IsSilent, Wrote}
+use Rattle.dcr_app.specs.Telling.{Telling}
 
 -- ---- after a run
 
@@ -88,13 +89,15 @@ tape_cause (opening.BadTape at) = BadTape at
 tape_cause opening.DiskFault = DiskFault
 
 -- the case was run over this store, and the report of the run was due
-pub record RanOver {D : Type 0} (view : D → DiskView) (faults : D → ℕ) (workers : ℕ) (case : Spelled) (old : List TapeEntry) (first : Store D) (disk : D)
+pub record RanOver {D : Type 0} (view : D → DiskView) (faults : D → ℕ) (telling : Telling D) (case : Spelled) (old : List TapeEntry) (first : Store D) (disk : D)
     (had took : Option (List ℕ)) (status : Status) (closed : Closed) : Type 0 where
   pub last : Store D
   pub same : disk ≡ disk_in last
   pub possible : ArePossible (cluster_in case old) (length old)
-  pub ran : HasRun view faults (cluster_in case old) first workers case.sessions closed last
-  pub report : (due : Status) × IsDueFor closed.history.entries due
+  pub whole : IsWhole view faults (cluster_in case old) first closed last
+  pub sessions : telling.sessions first case closed.history.entries
+  pub order : telling.order closed.history.entries
+  pub report : (due : Status) × IsDueFor telling closed.history.entries due
       × Wrote due (report_text case.nested case.cover closed.opening closed.history.entries) status had took
 
 -- no call was made over this store, for this cause
@@ -106,6 +109,6 @@ pub record RefusedOver {D : Type 0} (view : D → DiskView) (faults : D → ℕ)
   pub refused : Refused view faults (cluster_in case old) first cause last
   pub ends : EndsFor (tape_cause cause) status had took
 
-abbrev pub EndsOver : {D : Type 0} → (D → DiskView) → (D → ℕ) → ℕ → Spelled → List TapeEntry → Store D → D → Option (List ℕ) → Option (List ℕ) → Status → Option Closed → Type 0
-EndsOver view faults workers case old first disk had took status (Some closed) = RanOver view faults workers case old first disk had took status closed
-EndsOver view faults workers case old first disk had took status None = RefusedOver view faults case old first disk had took status
+abbrev pub EndsOver : {D : Type 0} → (D → DiskView) → (D → ℕ) → Telling D → Spelled → List TapeEntry → Store D → D → Option (List ℕ) → Option (List ℕ) → Status → Option Closed → Type 0
+EndsOver view faults telling case old first disk had took status (Some closed) = RanOver view faults telling case old first disk had took status closed
+EndsOver view faults telling case old first disk had took status None = RefusedOver view faults case old first disk had took status

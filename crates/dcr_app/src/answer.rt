@@ -1,9 +1,10 @@
-// What comes of a command, beside the disk.
-ghost use Rattle.std.specs.Prelude.{◌≡◌};
+// What comes of a command that serves no session over a link.
+ghost use Rattle.std.specs.Prelude.{◌≡◌, []};
 
 use crate::End;
-use dcr_base::Status;
+use dcr_base::{Door, Status};
 use dcr_journal::Closed;
+use dcr_serving::LinkEnd;
 
 /// How a command ended, and the run where there was one.
 #[derive(Drop)]
@@ -13,15 +14,18 @@ pub(crate) struct Answer {
 }
 
 impl Answer {
-    /// The end that has this disk.
-    pub(crate) fn over<D>(self, disk: D) -> End<D>
-        ensures { result ≡ record { status = self.status; closed = self.closed; disk = disk } }
+    /// The end that has this door and disk, and no session over a link.
+    pub(crate) fn over<B: Door, D>(self, door: B, disk: D, none: Vec<LinkEnd<B::Link>>) -> End<B, D>
+        requires { none.items ≡ [] }
+        ensures { result ≡ record { status = self.status; closed = self.closed; door = door; disk = disk; ends = none } }
     {
         let Answer { status, closed } = self;
         End {
             status,
             closed,
+            door,
             disk,
+            ends: none,
         }
     }
 }

@@ -1,5 +1,5 @@
 ghost use Rattle.std.specs.Prelude.{◌≡◌, ◌<◌, ◌≤◌, map, string_bytes, IfSome};
-ghost use Rattle.dcr_app.specs.Command.{HasWorkers, command_in, run_by, run_with, workers_in};
+ghost use Rattle.dcr_app.specs.Command.{HasNumbers, before_numbers, command_in, number_in, run_by, run_with, serve_by, serve_with};
 
 use dcr_text::{decimal_is_one_number, read_decimal};
 
@@ -7,21 +7,39 @@ use dcr_text::{decimal_is_one_number, read_decimal};
 #[derive(Clone, Copy)]
 pub enum Command {
     /// Run a case by so many workers, 1 to 64, and write its report; its executions are kept in a store, or not.
-    Run { workers: u32, store: bool },
+    Run {
+        workers: u32,
+        store: bool,
+    },
+    /// Serve so many sessions of a case over links, 1 to 1,024, by so many workers, 1 to 64, and write the report; the
+    /// executions are kept in a store, or not.
+    Serve {
+        sessions: u32,
+        workers: u32,
+        store: bool,
+    },
     /// Check a report.
     Replay,
 }
 
+// The most workers, and the most sessions that are served.
+const MAX_WORKERS: u32 = 64;
+
+const MAX_SESSIONS: u32 = 1_024;
+
 /// The command that the words spell. None exactly where they spell none.
 pub(crate) fn command_of(words: &[String]) -> Option<Command>
     ensures spelled { result ≡ command_in words.now }
-    ensures workers { IfSome result HasWorkers }
+    ensures numbers { IfSome result HasNumbers }
 {
     let Some((word, rest)) = words.split_first() else {
         return None;
     };
     if word.as_str() == "run" {
         return run_of(rest);
+    }
+    if word.as_str() == "serve" {
+        return serve_of(rest);
     }
     if word.as_str() == "replay" && rest.is_empty() {
         return Some(Command::Replay);
@@ -32,7 +50,7 @@ pub(crate) fn command_of(words: &[String]) -> Option<Command>
 // The run that the words behind `run` ask for.
 fn run_of(words: &[String]) -> Option<Command>
     ensures spelled { result ≡ run_with (map string_bytes words.now) }
-    ensures workers { IfSome result HasWorkers }
+    ensures numbers { IfSome result HasNumbers }
 {
     match words {
         [] => Some(Command::Run {
@@ -52,13 +70,13 @@ fn run_of(words: &[String]) -> Option<Command>
             if word.as_str() != "--workers" {
                 return None;
             }
-            run_by(workers_of(number.as_str()), false)
+            run_by(number_of(number.as_str(), MAX_WORKERS), false)
         }
         [word, number, last] => {
             if word.as_str() != "--workers" || last.as_str() != "--store" {
                 return None;
             }
-            run_by(workers_of(number.as_str()), true)
+            run_by(number_of(number.as_str(), MAX_WORKERS), true)
         }
         _ => None,
     }
@@ -74,15 +92,62 @@ fn run_by(workers: Option<u32>, store: bool) -> Option<Command>
     Some(Command::Run { workers, store })
 }
 
-// A number of workers, 1 to 64, that a word spells in decimal without leading zeros.
-fn workers_of(word: &str) -> Option<u32>
-    ensures spelled { result ≡ workers_in word.now }
-    ensures within { IfSome result (λ n. (0 < n) × (n ≤ 64)) }
+// The serving that the words behind `serve` ask for.
+fn serve_of(words: &[String]) -> Option<Command>
+    ensures spelled { result ≡ serve_with (map string_bytes words.now) }
+    ensures numbers { IfSome result HasNumbers }
+{
+    match words {
+        [first, sessions, second, workers] => {
+            if !are_before_numbers(first.as_str(), second.as_str()) {
+                return None;
+            }
+            serve_by(sessions.as_str(), workers.as_str(), false)
+        }
+        [first, sessions, second, workers, last] => {
+            if !are_before_numbers(first.as_str(), second.as_str()) || last.as_str() != "--store" {
+                return None;
+            }
+            serve_by(sessions.as_str(), workers.as_str(), true)
+        }
+        _ => None,
+    }
+}
+
+// Whether these words stand before the numbers of sessions and of workers.
+fn are_before_numbers(first: &str, second: &str) -> bool
+    ensures { result ≡ before_numbers first.now second.now }
+{
+    first == "--sessions" && second == "--workers"
+}
+
+// The serving whose numbers these words spell.
+fn serve_by(sessions: &str, workers: &str, store: bool) -> Option<Command>
+    ensures spelled { result ≡ serve_by store (number_in 1024 sessions.now) (number_in 64 workers.now) }
+    ensures numbers { IfSome result HasNumbers }
+{
+    let Some(sessions) = number_of(sessions, MAX_SESSIONS) else {
+        return None;
+    };
+    let Some(workers) = number_of(workers, MAX_WORKERS) else {
+        return None;
+    };
+    Some(Command::Serve {
+        sessions,
+        workers,
+        store,
+    })
+}
+
+// The number from 1 to this one that a word spells in decimal without leading zeros.
+fn number_of(word: &str, most: u32) -> Option<u32>
+    ensures spelled { result ≡ number_in most word.now }
+    ensures within { IfSome result (λ n. (0 < n) × (n ≤ most)) }
 {
     // Two numbers have not one decimal form.
     decimal_is_one_number();
     match read_decimal(word.as_bytes()) {
-        Some(n) if 1 <= n && n <= 64 => Some(n as u32),
+        Some(n) if 1 <= n && n <= most as u64 => Some(n as u32),
         _ => None,
     }
 }

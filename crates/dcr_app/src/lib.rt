@@ -1,4 +1,5 @@
-//! The top call: a case file in, its report out; or a report in, its verdict out.
+//! The top call: a case file in, its report out, with its own sessions or with others over links; or a report in, its verdict
+//! out.
 #![tactic(auto)]
 
 mod answer;
@@ -10,7 +11,10 @@ mod replay;
 mod run;
 mod say;
 mod stored;
+mod way;
 
 pub use app::{End, dcr};
 pub use dcr_base::Status;
 pub use dcr_journal::{Call, CallList, Closed, Entry, Journal, MarkList, Outcome};
+pub use dcr_link::{WorkCause, WorkEnd};
+pub use dcr_serving::LinkEnd;

@@ -1,17 +1,20 @@
-// The command `run`.
-ghost use Rattle.std.specs.Prelude.{◌≡◌, ◌≢◌, ◌⊎◌, ◌<◌, ◌≤◌, List, ℕ, Some, None, Ok, false, ⊤};
+// The commands that execute a case.
+ghost use Rattle.std.specs.Prelude.{◌≡◌, ◌≢◌, ◌⊎◌, ◌≤◌, List, ℕ, Some, None, Ok, false, ⊤};
 ghost use Rattle.std.specs.Io.KnownBytes.{IsAtEnd};
 ghost use Rattle.dcr_base.specs.Count.{Rose};
 ghost use Rattle.dcr_json.specs.Built.{case_of, IsCase};
 ghost use Rattle.dcr_json.specs.Case.{case_in};
 ghost use Rattle.dcr_app.specs.Answers.{AnswersCase, WroteReport};
+ghost use Rattle.dcr_app.specs.Command.{IsWay};
 ghost use Rattle.dcr_app.specs.Outside.{TookAtMost};
 ghost use Rattle.dcr_app.specs.Stored.{StandsStill};
+ghost use Rattle.dcr_app.specs.Telling.{Leaves, doors_of, told_by};
 
 use crate::End;
 use crate::say::{refuse, refuse_tape, silent};
 use crate::stored::run_over;
-use dcr_base::{Disk, Gate, ReadStop, Sink, Source, Status, read_all};
+use crate::way::Way;
+use dcr_base::{Disk, Door, Gate, Link, ReadStop, Sink, Source, Status, read_all};
 use dcr_json::{Case, CaseStop, read_case, when_each_refusal_comes};
 use dcr_report::case_digest;
 use dcr_tape::{Store, TapeRefused, no_cause, one_list, open_tape};
@@ -22,27 +25,34 @@ use std::thread::Threads;
 // The most bytes of a case file.
 const MAX_BYTES: usize = 16_777_216;
 
-/// Reads a case to its end, runs it by so many workers, and writes its report. With a store it goes on from the executions
-/// that the disk stands for, and keeps its own there.
+/// Reads a case to its end, runs its sessions or serves others over the links of the door, and writes the report. With a
+/// store it goes on from the executions that the disk stands for, and keeps its own there.
 pub(crate) fn run<
     I: Source,
     O: Sink,
+    B: Door<Link: Link<Rest: Send> + Send> + Send,
     D: Disk + Send,
     G: Gate + Drop + Sync,
     R: Threads + Wait + Sync,
 >(
     rt: &R,
     alloc: Global,
-    workers: u32,
+    way: Way,
     store: bool,
     input: &mut I,
     output: &mut O,
+    door: B,
     disk: D,
     gate: G,
-) -> End<D>
-    requires workers { (0 < workers) × (workers ≤ 64) }
-    ensures answers { AnswersCase D.view D.faults workers store disk result.disk (I.left input.old) (I.has_ended input.new)
+) -> End<B, D>
+    requires way { IsWay way }
+    ensures answers { AnswersCase D.view D.faults (told_by (doors_of B.links B.is_shut B.faults B.Link.left B.Link.taken B.Link.Rest.unread B.Link.Rest.sent
+        B.Link.Rest.failed_reads B.Link.Rest.failed_writes)
+        door result.door result.ends.items way) store disk result.disk (I.left input.old) (I.has_ended input.new)
         (O.taken output.old) (O.taken output.new) result.status result.closed }
+    ensures door { Leaves (doors_of B.links B.is_shut B.faults B.Link.left B.Link.taken B.Link.Rest.unread B.Link.Rest.sent
+        B.Link.Rest.failed_reads B.Link.Rest.failed_writes)
+        way result.closed door result.door result.ends.items result.status }
     ensures report { result.status ≡ Status.Done → WroteReport (O.taken output.old) (O.taken output.new) result.closed }
     ensures asked { TookAtMost 16777217 (I.left input.old) (I.left input.new) }
     ensures ended { result.status ≡ Status.Done → I.has_ended input.new }
@@ -60,27 +70,41 @@ pub(crate) fn run<
     ensures uncalled { (result.status ≡ Status.Refused) ⊎ (result.status ≡ Status.ReadFault) → result.disk ≡ disk }
 {
     match read_all(alloc, input, MAX_BYTES) {
-        Ok(bytes) => run_bytes(rt, alloc, workers, store, &bytes, output, disk, gate),
-        Err(ReadStop::TooLong) => refuse(alloc, output, CaseStop::TooLong).over(disk),
-        Err(ReadStop::ReadFault) => silent(Status::ReadFault).over(disk),
-        Err(ReadStop::NoMemory) => silent(Status::NoMemory).over(disk),
+        Ok(bytes) => run_bytes(rt, alloc, way, store, &bytes, output, door, disk, gate),
+        Err(ReadStop::TooLong) => {
+            refuse(alloc, output, CaseStop::TooLong).over(door, disk, Vec::new(alloc))
+        }
+        Err(ReadStop::ReadFault) => silent(Status::ReadFault).over(door, disk, Vec::new(alloc)),
+        Err(ReadStop::NoMemory) => silent(Status::NoMemory).over(door, disk, Vec::new(alloc)),
     }
 }
 
 // Answers the bytes of a file.
-fn run_bytes<O: Sink, D: Disk + Send, G: Gate + Drop + Sync, R: Threads + Wait + Sync>(
+fn run_bytes<
+    O: Sink,
+    B: Door<Link: Link<Rest: Send> + Send> + Send,
+    D: Disk + Send,
+    G: Gate + Drop + Sync,
+    R: Threads + Wait + Sync,
+>(
     rt: &R,
     alloc: Global,
-    workers: u32,
+    way: Way,
     store: bool,
     bytes: &[u8],
     output: &mut O,
+    door: B,
     disk: D,
     gate: G,
-) -> End<D>
-    requires workers { (0 < workers) × (workers ≤ 64) }
-    ensures answers { AnswersCase D.view D.faults workers store disk result.disk (Some bytes.now) ⊤ (O.taken output.old) (O.taken output.new)
+) -> End<B, D>
+    requires way { IsWay way }
+    ensures answers { AnswersCase D.view D.faults (told_by (doors_of B.links B.is_shut B.faults B.Link.left B.Link.taken B.Link.Rest.unread B.Link.Rest.sent
+        B.Link.Rest.failed_reads B.Link.Rest.failed_writes)
+        door result.door result.ends.items way) store disk result.disk (Some bytes.now) ⊤ (O.taken output.old) (O.taken output.new)
         result.status result.closed }
+    ensures door { Leaves (doors_of B.links B.is_shut B.faults B.Link.left B.Link.taken B.Link.Rest.unread B.Link.Rest.sent
+        B.Link.Rest.failed_reads B.Link.Rest.failed_writes)
+        way result.closed door result.door result.ends.items result.status }
     ensures report { result.status ≡ Status.Done → WroteReport (O.taken output.old) (O.taken output.new) result.closed }
     ensures no_read_fault { result.status ≢ Status.ReadFault }
     ensures counted { result.status ≡ Status.WriteFault → Rose (O.write_faults output.old) (O.write_faults output.new) }
@@ -93,27 +117,39 @@ fn run_bytes<O: Sink, D: Disk + Send, G: Gate + Drop + Sync, R: Threads + Wait +
     ensures uncalled { result.status ≡ Status.Refused → result.disk ≡ disk }
 {
     match read_case(alloc, bytes) {
-        Ok(case) => run_case_on(rt, alloc, workers, store, &case, output, disk, gate),
-        Err(stop) => refuse(alloc, output, stop).over(disk),
+        Ok(case) => run_case_on(rt, alloc, way, store, &case, output, door, disk, gate),
+        Err(stop) => refuse(alloc, output, stop).over(door, disk, Vec::new(alloc)),
     }
 }
 
-// Runs a case, and with a store opens its tape first.
-fn run_case_on<O: Sink, D: Disk + Send, G: Gate + Drop + Sync, R: Threads + Wait + Sync>(
+// Executes a case, and with a store opens its tape first.
+fn run_case_on<
+    O: Sink,
+    B: Door<Link: Link<Rest: Send> + Send> + Send,
+    D: Disk + Send,
+    G: Gate + Drop + Sync,
+    R: Threads + Wait + Sync,
+>(
     rt: &R,
     alloc: Global,
-    workers: u32,
+    way: Way,
     store: bool,
     case: &Case,
     output: &mut O,
+    door: B,
     disk: D,
     gate: G,
-) -> End<D>
-    requires workers { (0 < workers) × (workers ≤ 64) }
+) -> End<B, D>
+    requires way { IsWay way }
     requires case { IsCase case.now }
     ensures answers { (bytes : List ℕ) → case_in bytes ≡ Ok (case_of case.now)
-        → AnswersCase D.view D.faults workers store disk result.disk (Some bytes) ⊤ (O.taken output.old) (O.taken output.new)
+        → AnswersCase D.view D.faults (told_by (doors_of B.links B.is_shut B.faults B.Link.left B.Link.taken B.Link.Rest.unread B.Link.Rest.sent
+        B.Link.Rest.failed_reads B.Link.Rest.failed_writes)
+        door result.door result.ends.items way) store disk result.disk (Some bytes) ⊤ (O.taken output.old) (O.taken output.new)
         result.status result.closed }
+    ensures door { Leaves (doors_of B.links B.is_shut B.faults B.Link.left B.Link.taken B.Link.Rest.unread B.Link.Rest.sent
+        B.Link.Rest.failed_reads B.Link.Rest.failed_writes)
+        way result.closed door result.door result.ends.items result.status }
     ensures report { result.status ≡ Status.Done → WroteReport (O.taken output.old) (O.taken output.new) result.closed }
     ensures no_read_fault { result.status ≢ Status.ReadFault }
     ensures counted { result.status ≡ Status.WriteFault → Rose (O.write_faults output.old) (O.write_faults output.new) }
@@ -132,29 +168,33 @@ fn run_case_on<O: Sink, D: Disk + Send, G: Gate + Drop + Sync, R: Threads + Wait
         return run_over(
             rt,
             alloc,
-            workers,
+            way,
             case,
             Store::Off(disk),
             &[],
             output,
+            door,
             gate,
         );
     }
     let digest = case_digest(alloc, &case.nested, &case.graph, &case.cover, &case.opening);
     let Ok(digest) = digest else {
-        return silent(Status::NoMemory).over(disk);
+        return silent(Status::NoMemory).over(door, disk, Vec::new(alloc));
     };
     match open_tape(alloc, disk, &digest) {
         Ok((tape, old)) => run_over(
             rt,
             alloc,
-            workers,
+            way,
             case,
             Store::On(tape),
             &old,
             output,
+            door,
             gate,
         ),
-        Err(TapeRefused { cause, disk }) => refuse_tape(alloc, output, cause).over(disk),
+        Err(TapeRefused { cause, disk }) => {
+            refuse_tape(alloc, output, cause).over(door, disk, Vec::new(alloc))
+        }
     }
 }

@@ -1,6 +1,5 @@
-// The run of a case over a store.
-ghost use Rattle.std.specs.Prelude.{◌≡◌, ◌≢◌, ◌⊎◌, ◌<◌, ◌≤◌, length};
-ghost use Rattle.std.specs.List.{All};
+// A case that is executed over a store.
+ghost use Rattle.std.specs.Prelude.{◌≡◌, ◌≢◌, ◌≤◌, length, false, IsTrue};
 ghost use Rattle.dcr_base.specs.Count.{Rose};
 ghost use Rattle.dcr_graph.specs.Cause.{waits};
 ghost use Rattle.dcr_graph.specs.GraphValue.{rules_of};
@@ -11,15 +10,17 @@ ghost use Rattle.dcr_cell.specs.Stored.{MayBegin};
 ghost use Rattle.dcr_json.specs.Built.{case_of, IsCase};
 ghost use Rattle.dcr_report.specs.Report.{report_text};
 ghost use Rattle.dcr_app.specs.Answers.{WroteReport};
-ghost use Rattle.dcr_app.specs.Headline.{IsDueFor};
-ghost use Rattle.dcr_app.specs.Outside.{Wrote};
+ghost use Rattle.dcr_app.specs.Command.{AreSessions, AreWorkers, IsWay};
+ghost use Rattle.dcr_app.specs.Outside.{IsOfReport, Wrote};
 ghost use Rattle.dcr_app.specs.Stored.{EndsOver, disk_in, tape_cause};
+ghost use Rattle.dcr_app.specs.Telling.{IsDueBy, IsUnasked, Leaves, LeavesWith, by_workers, doors_of, over_links, told_by};
 
 use crate::End;
 use crate::say::refuse_tape;
-use dcr_base::{Disk, Gate, Sink, Status};
+use crate::way::Way;
+use dcr_base::{Disk, Door, Gate, Link, Sink, Status};
 use dcr_cluster::{Finished, OpenCause, OpenRefused};
-use dcr_engine::run_case;
+use dcr_engine::{CaseServed, CaseUnserved, run_case, serve_case};
 use dcr_journal::{Closed, Outcome};
 use dcr_json::Case;
 use dcr_report::{ReportStop, write_report};
@@ -28,8 +29,64 @@ use std::alloc::Global;
 use std::sync::Wait;
 use std::thread::Threads;
 
-/// Runs a case over a store, which has these executions from before, and writes the report of the run.
-pub(crate) fn run_over<O: Sink, D: Disk + Send, G: Gate + Drop + Sync, R: Threads + Wait + Sync>(
+// The most entries of a history whose sessions come over links.
+const MAX_ENTRIES: u32 = 200_000;
+
+/// Executes a case over a store, which has these executions from before, and writes the report.
+pub(crate) fn run_over<
+    O: Sink,
+    B: Door<Link: Link<Rest: Send> + Send> + Send,
+    D: Disk + Send,
+    G: Gate + Drop + Sync,
+    R: Threads + Wait + Sync,
+>(
+    rt: &R,
+    alloc: Global,
+    way: Way,
+    case: &Case,
+    store: Store<D>,
+    old: &[TapeEntry],
+    output: &mut O,
+    door: B,
+    gate: G,
+) -> End<B, D>
+    requires way { IsWay way }
+    requires case { IsCase case.now }
+    requires few_old { length old.now ≤ 1000000 }
+    requires begins { MayBegin D.view old.now store }
+    ensures over { EndsOver D.view D.faults (told_by (doors_of B.links B.is_shut B.faults B.Link.left B.Link.taken B.Link.Rest.unread B.Link.Rest.sent
+        B.Link.Rest.failed_reads B.Link.Rest.failed_writes)
+        door result.door result.ends.items way)
+        (case_of case.now) old.now store result.disk (O.taken output.old) (O.taken output.new)
+        result.status result.closed }
+    ensures door { Leaves (doors_of B.links B.is_shut B.faults B.Link.left B.Link.taken B.Link.Rest.unread B.Link.Rest.sent
+        B.Link.Rest.failed_reads B.Link.Rest.failed_writes)
+        way result.closed door result.door result.ends.items result.status }
+    ensures report { result.status ≡ Status.Done → WroteReport (O.taken output.old) (O.taken output.new) result.closed }
+    ensures no_read_fault { result.status ≢ Status.ReadFault }
+    ensures accepted { result.status ≢ Status.Refused }
+    ensures counted { result.status ≡ Status.WriteFault → Rose (O.write_faults output.old) (O.write_faults output.new) }
+    ensures no_write_fault { result.status ≢ Status.WriteFault → O.write_faults output.new ≡ O.write_faults output.old }
+    ensures never_falls { O.write_faults output.old ≤ O.write_faults output.new }
+{
+    match way {
+        Way::Run { workers } => by_workers(
+            rt, alloc, workers, case, store, old, output, door, gate,
+        ),
+        Way::Serve { sessions, workers } => over_links(
+            rt, alloc, sessions, workers, case, store, old, output, door, gate,
+        ),
+    }
+}
+
+// Runs the sessions of a case.
+fn by_workers<
+    O: Sink,
+    B: Door<Link: Link<Rest: Send> + Send> + Send,
+    D: Disk + Send,
+    G: Gate + Drop + Sync,
+    R: Threads + Wait + Sync,
+>(
     rt: &R,
     alloc: Global,
     workers: u32,
@@ -37,14 +94,17 @@ pub(crate) fn run_over<O: Sink, D: Disk + Send, G: Gate + Drop + Sync, R: Thread
     store: Store<D>,
     old: &[TapeEntry],
     output: &mut O,
+    door: B,
     gate: G,
-) -> End<D>
-    requires workers { (0 < workers) × (workers ≤ 64) }
+) -> End<B, D>
+    requires workers { AreWorkers workers }
     requires case { IsCase case.now }
     requires few_old { length old.now ≤ 1000000 }
     requires begins { MayBegin D.view old.now store }
-    ensures over { EndsOver D.view D.faults workers (case_of case.now) old.now store result.disk (O.taken output.old) (O.taken output.new)
+    ensures over { EndsOver D.view D.faults (by_workers workers)
+        (case_of case.now) old.now store result.disk (O.taken output.old) (O.taken output.new)
         result.status result.closed }
+    ensures door { IsUnasked door result.door result.ends.items }
     ensures report { result.status ≡ Status.Done → WroteReport (O.taken output.old) (O.taken output.new) result.closed }
     ensures no_read_fault { result.status ≢ Status.ReadFault }
     ensures accepted { result.status ≢ Status.Refused }
@@ -66,15 +126,97 @@ pub(crate) fn run_over<O: Sink, D: Disk + Send, G: Gate + Drop + Sync, R: Thread
     );
     match ran {
         Ok(Finished { closed, store }) => {
-            let status = report(alloc, case, &closed, output);
+            let due = due_for(&closed);
+            let status = report(alloc, case, &closed, due, output);
             End {
                 status,
                 closed: Some(closed),
+                door,
                 disk: disk_of(store),
+                ends: Vec::new(alloc),
             }
         }
         Err(OpenRefused { cause, store }) => {
-            refuse_tape(alloc, output, cause_of(cause)).over(disk_of(store))
+            refuse_tape(alloc, output, cause_of(cause)).over(door, disk_of(store), Vec::new(alloc))
+        }
+    }
+}
+
+// Serves so many sessions over the links of the door.
+fn over_links<
+    O: Sink,
+    B: Door<Link: Link<Rest: Send> + Send> + Send,
+    D: Disk + Send,
+    G: Gate + Drop + Sync,
+    R: Threads + Wait + Sync,
+>(
+    rt: &R,
+    alloc: Global,
+    sessions: u32,
+    workers: u32,
+    case: &Case,
+    store: Store<D>,
+    old: &[TapeEntry],
+    output: &mut O,
+    door: B,
+    gate: G,
+) -> End<B, D>
+    requires sessions { AreSessions sessions }
+    requires workers { AreWorkers workers }
+    requires case { IsCase case.now }
+    requires few_old { length old.now ≤ 1000000 }
+    requires begins { MayBegin D.view old.now store }
+    ensures over { EndsOver D.view D.faults (over_links (doors_of B.links B.is_shut B.faults B.Link.left B.Link.taken B.Link.Rest.unread B.Link.Rest.sent
+        B.Link.Rest.failed_reads B.Link.Rest.failed_writes)
+        door result.door sessions result.ends.items)
+        (case_of case.now) old.now store result.disk (O.taken output.old) (O.taken output.new)
+        result.status result.closed }
+    ensures door { LeavesWith (doors_of B.links B.is_shut B.faults B.Link.left B.Link.taken B.Link.Rest.unread B.Link.Rest.sent
+        B.Link.Rest.failed_reads B.Link.Rest.failed_writes)
+        sessions result.closed door result.door result.ends.items result.status }
+    ensures report { result.status ≡ Status.Done → WroteReport (O.taken output.old) (O.taken output.new) result.closed }
+    ensures no_read_fault { result.status ≢ Status.ReadFault }
+    ensures accepted { result.status ≢ Status.Refused }
+    ensures counted { result.status ≡ Status.WriteFault → Rose (O.write_faults output.old) (O.write_faults output.new) }
+    ensures no_write_fault { result.status ≢ Status.WriteFault → O.write_faults output.new ≡ O.write_faults output.old }
+    ensures never_falls { O.write_faults output.old ≤ O.write_faults output.new }
+{
+    let served = serve_case(
+        rt,
+        alloc,
+        &case.graph,
+        &case.cover,
+        &case.opening,
+        sessions,
+        workers,
+        store,
+        old,
+        gate,
+        door,
+    );
+    match served {
+        Ok(
+            CaseServed {
+                finished,
+                door,
+                door_failed,
+                no_memory,
+                ends,
+            },
+        ) => {
+            let Finished { closed, store } = finished;
+            let status = report_served(alloc, case, &closed, door_failed, no_memory, output);
+            End {
+                status,
+                closed: Some(closed),
+                door,
+                disk: disk_of(store),
+                ends,
+            }
+        }
+        Err(CaseUnserved { refused, door }) => {
+            let OpenRefused { cause, store } = refused;
+            refuse_tape(alloc, output, cause_of(cause)).over(door, disk_of(store), Vec::new(alloc))
         }
     }
 }
@@ -100,8 +242,14 @@ fn cause_of(cause: OpenCause) -> TapeCause
     }
 }
 
-// Writes the report of a run.
-fn report<O: Sink>(alloc: Global, case: &Case, closed: &Closed, output: &mut O) -> Status
+// Writes the report of a run, which is due with this status.
+fn report<O: Sink>(
+    alloc: Global,
+    case: &Case,
+    closed: &Closed,
+    due: Status,
+    output: &mut O,
+) -> Status
     requires case { IsCase case.now }
     requires opening { HasRoom (length case.now.graph.names) closed.now.opening }
     requires legal { IsLegal (rules_of case.now.graph) case.now.cover.owned closed.now.opening closed.now.history.entries }
@@ -109,8 +257,8 @@ fn report<O: Sink>(alloc: Global, case: &Case, closed: &Closed, output: &mut O) 
         (after (rules_of case.now.graph) closed.now.opening closed.now.history.entries) }
     requires verdict { closed.now.waits ≡ waits (length case.now.graph.names)
         (after (rules_of case.now.graph) closed.now.opening closed.now.history.entries) }
-    ensures wrote { (due : Status) × IsDueFor closed.now.history.entries due
-        × Wrote due (report_text case.now.nested case.now.cover closed.now.opening closed.now.history.entries) result
+    requires due { IsOfReport due }
+    ensures wrote { Wrote due (report_text case.now.nested case.now.cover closed.now.opening closed.now.history.entries) result
         (O.taken output.old) (O.taken output.new) }
     ensures no_read_fault { result ≢ Status.ReadFault }
     ensures accepted { result ≢ Status.Refused }
@@ -118,7 +266,6 @@ fn report<O: Sink>(alloc: Global, case: &Case, closed: &Closed, output: &mut O) 
     ensures no_write_fault { result ≢ Status.WriteFault → O.write_faults output.new ≡ O.write_faults output.old }
     ensures never_falls { O.write_faults output.old ≤ O.write_faults output.new }
 {
-    let due = due_for(closed);
     match write_report(
         alloc,
         &case.nested,
@@ -133,10 +280,45 @@ fn report<O: Sink>(alloc: Global, case: &Case, closed: &Closed, output: &mut O) 
     }
 }
 
+// Writes the report of sessions over links. Nothing is written where a session wanted memory.
+fn report_served<O: Sink>(
+    alloc: Global,
+    case: &Case,
+    closed: &Closed,
+    door_failed: bool,
+    no_memory: bool,
+    output: &mut O,
+) -> Status
+    requires case { IsCase case.now }
+    requires opening { HasRoom (length case.now.graph.names) closed.now.opening }
+    requires legal { IsLegal (rules_of case.now.graph) case.now.cover.owned closed.now.opening closed.now.history.entries }
+    requires marks { closed.now.marks ≡ marks_at (rules_of case.now.graph) case.now.cover.owned
+        (after (rules_of case.now.graph) closed.now.opening closed.now.history.entries) }
+    requires verdict { closed.now.waits ≡ waits (length case.now.graph.names)
+        (after (rules_of case.now.graph) closed.now.opening closed.now.history.entries) }
+    ensures wrote { (due : Status) × IsDueBy (EndsWithoutFault closed.now.history.entries) (length closed.now.history.entries ≡ 200000)
+        (IsTrue door_failed) due
+        × Wrote due (report_text case.now.nested case.now.cover closed.now.opening closed.now.history.entries) result
+        (O.taken output.old) (O.taken output.new) }
+    ensures wanted { IsTrue no_memory → result ≡ Status.NoMemory }
+    ensures unfailed { result ≡ Status.Done → door_failed ≡ false }
+    ensures no_read_fault { result ≢ Status.ReadFault }
+    ensures accepted { result ≢ Status.Refused }
+    ensures counted { result ≡ Status.WriteFault → Rose (O.write_faults output.old) (O.write_faults output.new) }
+    ensures no_write_fault { result ≢ Status.WriteFault → O.write_faults output.new ≡ O.write_faults output.old }
+    ensures never_falls { O.write_faults output.old ≤ O.write_faults output.new }
+{
+    let due = due_served(closed, door_failed);
+    if no_memory {
+        return Status::NoMemory;
+    }
+    report(alloc, case, closed, due, output)
+}
+
 // The status with which the report of a run is due. A failed execution is the last entry.
 fn due_for(closed: &Closed) -> Status
-    ensures { (EndsWithoutFault closed.now.history.entries × (result ≡ Status.Done))
-        ⊎ (¬ EndsWithoutFault closed.now.history.entries × (result ≡ Status.DiskFault)) }
+    ensures due { IsDueBy (EndsWithoutFault closed.now.history.entries) ⊥ ⊥ result }
+    ensures done { EndsWithoutFault closed.now.history.entries → result ≡ Status.Done }
 {
     match closed.history.last() {
         Some(entry) => match entry.outcome {
@@ -144,5 +326,17 @@ fn due_for(closed: &Closed) -> Status
             _ => Status::Done,
         },
         None => Status::Done,
+    }
+}
+
+// The same of sessions over links.
+fn due_served(closed: &Closed, door_failed: bool) -> Status
+    ensures due { IsDueBy (EndsWithoutFault closed.now.history.entries) (length closed.now.history.entries ≡ 200000) (IsTrue door_failed) result }
+    ensures unfailed { result ≡ Status.Done → door_failed ≡ false }
+{
+    match due_for(closed) {
+        Status::Done if closed.history.len() == MAX_ENTRIES => Status::Full,
+        Status::Done if door_failed => Status::DoorFault,
+        due => due,
     }
 }

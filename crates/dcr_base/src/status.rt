@@ -20,8 +20,12 @@ pub enum Status {
     DiskFault,
     /// The report that was read is not that of a legal history.
     Invalid,
+    /// The history is full.
+    Full,
     /// The tape was read, and refused.
     TapeRefused,
+    /// The door failed.
+    DoorFault,
 }
 
 impl Status {
@@ -38,7 +42,9 @@ impl Status {
             Status::NoMemory => 6,
             Status::DiskFault => 7,
             Status::Invalid => 8,
+            Status::Full => 9,
             Status::TapeRefused => 10,
+            Status::DoorFault => 11,
         }
     }
 }

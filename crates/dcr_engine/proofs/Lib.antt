@@ -5,4 +5,6 @@ pub mod LawLemmas
 mod WorkedLemmas
 mod UnbegunLemmas
 mod RanLemmas
+mod AskedLemmas
+mod ServedLemmas
 mod NamedLemmas

@@ -21,21 +21,28 @@ use Rattle.dcr_work.specs.Order.{IsInWorkerOrder}
 abbrev pub cluster_of : Flat → Owners → Marking → List TapeEntry → ClusterId
 cluster_of graph cover opening old = record { rules = rules_of graph; owned = cover.owned; opening = opening; old = old }
 
--- The run of the sessions by so many workers, over this store: it begins with the opening marking stepped by the executions
--- from before. Its history is a run of the graph, in worker order. It has a beginning of each session's calls, in order,
--- each once, and all of them where nothing failed; and no entry of another session. The marks of
--- each site are its projection of the marking after it, and what is waited for is what that marking waits for. The store is
--- that of the run.
-pub record HasRun {D : Type 0} (view : D → DiskView) (faults : D → ℕ) (c : ClusterId) (first : Store D) (workers : ℕ) (sessions : List (List Call)) (closed : Closed)
-    (store : Store D) : Type 0 where
+-- The history of a cluster over this store, told whole: it begins with the opening marking stepped by the executions from
+-- before, and is a run of the graph. The marks of each site are its projection of the marking after it, and what is waited
+-- for is what that marking waits for. The store is that of the run.
+pub record IsWhole {D : Type 0} (view : D → DiskView) (faults : D → ℕ) (c : ClusterId) (first : Store D) (closed : Closed) (store : Store D) : Type 0 where
   pub opening : closed.opening ≡ begun c
   pub room : HasRoom c.rules.atoms closed.opening
   pub legal : IsRunOf c closed.history.entries
   pub most_entries : length closed.history.entries ≤ 200000
-  pub begun_each : (k : ℕ) → (count : ℕ) × (calls_of k closed.history.entries ≡ take count (slice_index_or sessions k []))
-  pub every_call : HasNoFault closed.history.entries → (k : ℕ) → calls_of k closed.history.entries ≡ slice_index_or sessions k []
-  pub no_other : All (λ (entry : Entry). entry.session < length sessions) closed.history.entries
-  pub in_order : IsInWorkerOrder workers closed.history.entries
   pub marks : closed.marks ≡ marks_at c.rules c.owned (marking_after c closed.history.entries)
   pub waits : closed.waits ≡ waits c.rules.atoms (marking_after c closed.history.entries)
   pub stored : StoreStands view faults (Some first) c.old closed.history.entries store
+
+-- The history has a beginning of each session's calls, in order, each once, and no entry of another session; where nothing
+-- failed it has them all.
+pub record HasCalls (sessions : List (List Call)) (J : List Entry) : Type 0 where
+  pub all : HasNoFault J → (k : ℕ) → calls_of k J ≡ slice_index_or sessions k []
+  pub first : (k : ℕ) → (count : ℕ) × (calls_of k J ≡ take count (slice_index_or sessions k []))
+  pub no_other : All (λ (entry : Entry). entry.session < length sessions) J
+
+-- the run of the sessions by so many workers, over this store
+pub record HasRun {D : Type 0} (view : D → DiskView) (faults : D → ℕ) (c : ClusterId) (first : Store D) (workers : ℕ) (sessions : List (List Call)) (closed : Closed)
+    (store : Store D) : Type 0 where
+  pub whole : IsWhole view faults c first closed store
+  pub calls : HasCalls sessions closed.history.entries
+  pub in_order : IsInWorkerOrder workers closed.history.entries

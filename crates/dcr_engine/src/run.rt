@@ -7,16 +7,15 @@ ghost use Rattle.dcr_site.specs.Together.{AllStand};
 ghost use Rattle.dcr_cell.specs.ClusterId.{IsNamed};
 ghost use Rattle.dcr_cell.specs.Stored.{MayBegin};
 ghost use Rattle.dcr_cluster.specs.Opening.{ArePossible, Refused};
-ghost use Rattle.dcr_cluster.specs.declared.refused.OpenCause.TheVariants.{NoMemory};
 ghost use Rattle.dcr_engine.specs.Ran.{HasRun, cluster_of};
 
+use crate::parts::{no_memory, parts_of};
 use dcr_base::{Disk, Gate};
 use dcr_cell::StoreName;
-use dcr_cluster::{Cluster, ClusterBlank, Finished, OpenCause, OpenRefused};
+use dcr_cluster::{Cluster, ClusterBlank, Finished, OpenRefused};
 use dcr_graph::{Graph, Marking};
 use dcr_journal::CallList;
 use dcr_proj::Cover;
-use dcr_run::Sites;
 use dcr_site::Site;
 use dcr_tape::{Store, TapeEntry};
 use dcr_work::{RunStop, history_in_worker_order, run_sessions};
@@ -59,13 +58,8 @@ pub fn run_case<D: Disk + Send, G: Gate + Drop + Sync, R: Threads + Wait + Sync>
     ensures refused { IfErr result (λ refused. Refused D.view D.faults (cluster_of graph.now cover.now opening.now old.now) store
         refused.cause refused.store) }
 {
-    // A cover has 1 to 64 sites.
-    cover.sites();
-    let Ok(sites) = Sites::open(alloc, graph, cover, opening) else {
-        return Err(no_memory(store));
-    };
-    let (network, sites) = sites.into_parts();
-    let Ok(blank) = ClusterBlank::new(alloc, network, sessions.len() as u32) else {
+    let parts = parts_of(alloc, graph, cover, opening, sessions.len() as u32);
+    let Ok((blank, sites)) = parts else {
         return Err(no_memory(store));
     };
     in_cluster::<D, G, Brand, R>(
@@ -83,16 +77,6 @@ pub fn run_case<D: Disk + Send, G: Gate + Drop + Sync, R: Threads + Wait + Sync>
         old,
         gate,
     )
-}
-
-// There was no memory for a cluster or its workers.
-fn no_memory<D>(store: Store<D>) -> OpenRefused<D>
-    ensures { result ≡ record { cause = NoMemory; store = store } }
-{
-    OpenRefused {
-        cause: OpenCause::NoMemory,
-        store,
-    }
 }
 
 // How many calls the sessions have.

@@ -1,5 +1,5 @@
 // One fault at each place: of the source, and of the sink.
-use crate::whole::{empty_disk, hospital, words_of};
+use crate::whole::{empty_disk, hospital, no_door, words_of};
 use dcr_app::{Status, dcr};
 use dcr_base::OpenGate;
 use dcr_fakes::{MemSink, MemSource};
@@ -23,8 +23,17 @@ fn ended<R: Threads + Wait + Sync>(
     let failing = Vec::from_slice(alloc, &[failing])?;
     let mut input = MemSource::new(bytes, 100, failing);
     let mut output = MemSink::new(alloc, room);
-    let disk = empty_disk(alloc);
-    let end = dcr(rt, alloc, &words, &mut input, &mut output, disk, OpenGate);
+    let (door, disk) = (no_door(alloc), empty_disk(alloc));
+    let end = dcr(
+        rt,
+        alloc,
+        &words,
+        &mut input,
+        &mut output,
+        door,
+        disk,
+        OpenGate,
+    );
     if !end.disk.calls().is_empty() {
         return Err(Fail::from("the disk was called"));
     }

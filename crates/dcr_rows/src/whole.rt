@@ -1,7 +1,7 @@
 // Whole cases and their whole reports.
 use dcr_app::{Status, dcr};
 use dcr_base::{Gate, OpenGate, StdSink, StdSource};
-use dcr_fakes::MemDisk;
+use dcr_fakes::{MemDisk, MemDoor};
 use std::alloc::{AllocError, Global};
 use std::sync::Wait;
 use std::test::Fail;
@@ -296,6 +296,11 @@ pub(crate) fn words_of(alloc: Global, words: &[&str]) -> Result<Vec<String>, All
     Ok(all)
 }
 
+// A door without links.
+pub(crate) fn no_door(alloc: Global) -> MemDoor {
+    MemDoor::new(Vec::new(alloc), Vec::new(alloc))
+}
+
 // An empty disk, of which no call fails.
 pub(crate) fn empty_disk(alloc: Global) -> MemDisk {
     MemDisk::new(alloc, Vec::new(alloc), Vec::new(alloc))
@@ -323,8 +328,8 @@ pub(crate) fn answer_at<G: Gate + Drop + Sync, R: Threads + Wait + Sync>(
     let mut input = StdSource::new(bytes);
     // With its room taken at first, the sink of a small report doesn't fail for want of memory.
     let mut output = StdSink::new(Vec::with_capacity(alloc, 4096)?);
-    let disk = empty_disk(alloc);
-    let end = dcr(rt, alloc, &words, &mut input, &mut output, disk, gate);
+    let (door, disk) = (no_door(alloc), empty_disk(alloc));
+    let end = dcr(rt, alloc, &words, &mut input, &mut output, door, disk, gate);
     if !end.disk.calls().is_empty() {
         return Err(Fail::from("the disk was called"));
     }

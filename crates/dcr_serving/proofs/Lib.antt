@@ -2,3 +2,4 @@ pub mod PlacingLemmas
 pub mod ServingLemmas
 pub mod GatherLemmas
 pub mod DeskLemmas
+pub mod HistoryLemmas

@@ -1,6 +1,7 @@
 -- One session more that was served, and one that was not.
 use Rattle.std.proofs.Common.{◌≡◌, ◌≢◌, ℕ, ◌+◌, ◌-◌, ◌<◌, ◌≤◌, List, [], ◌∷◌, ◌++◌, length, map, drop, reverse, refl, sym, ap, subst, ◌∙◌, append_assoc, arith, ◌⊎◌, inl, inr}
-use Rattle.std.specs.Prelude.{Option, Some, Ok}
+use Rattle.std.specs.Prelude.{Option, Some, None, Ok, true, false}
+use Rattle.std.proofs.lemmas.Bool.{false≢true}
 use Rattle.std.specs.List.{All, range_with_len}
 use Rattle.std.proofs.lemmas.List.{append-nil, drop-append-le, drop_all, length-append, length-map, map-append, map-id, reverse-append}
 use Rattle.std.proofs.lemmas.List.Elements.{All-map, All-nil, All-push}
@@ -8,13 +9,13 @@ use Rattle.std.proofs.lemmas.List.FromFn.{length-map-range_with_len, map-range_w
 use Rattle.dcr_base.specs.Door.{GivesNext}
 use Rattle.dcr_tape.specs.declared.tape.Store.{Store}
 use Rattle.dcr_turn.specs.PassValue.{PassValue, new_passes}
-use Rattle.dcr_serve.specs.Left.{numbers_from, HasNumber}
+use Rattle.dcr_serve.specs.Left.{numbers_from, AreAllButFirst, HasNumber}
 use Rattle.dcr_serve.specs.declared.stand.DoorStand.{DoorStand}
 use Rattle.dcr_serve.specs.declared.stand.DoorStand.TheVariants.{Open, Shut, Failed}
 use Rattle.dcr_serve.proofs.Giving.{first_is_next, gives_its_number}
 use Rattle.dcr_link.specs.Serving.{AnyRose, Serves}
 use Rattle.dcr_link.specs.declared.end.WorkEnd.{WorkEnd}
-use Rattle.dcr_serving.specs.Serving.{AreServed, IsServed, IsServedOf, Stands, Tells, new_pass}
+use Rattle.dcr_serving.specs.Serving.{AreServed, DoorEnds, IsServed, IsServedOf, Stands, Tells, new_pass}
 use Rattle.dcr_serving.specs.declared.end.LinkEnd.{LinkEnd}
 use Rattle.dcr_serving.specs.declared.record.Record.{Record}
 use Rattle.std.proofs.lemmas.Simd.{map-map}
@@ -121,6 +122,23 @@ served_none tells first capacity sites atoms links n passes ends new none = reco
 }
 
 -- ---- the door
+
+none_given : {L : Type 0} (links : Option (List L)) → AreAllButFirst links 0 links
+none_given None = refl
+none_given (Some links) = (omega arith, refl)
+
+-- for want of memory the door was not asked
+pub door_unasked : {B L R : Type 0} (links : B → Option (List L)) (is_shut : B → Type 0) (faults : B → ℕ) (door : B) (sessions : ℕ) (ends : List (LinkEnd L R)) → ends ≡ []
+    → DoorEnds links is_shut faults door door sessions ends false true
+door_unasked links is_shut faults door sessions ends none = record {
+  left = subst (λ (n : ℕ). AreAllButFirst (links door) n (links door)) (sym (ap (λ (l : List (LinkEnd _ _)). length l) none)) (none_given (links door));
+  all = λ not_failed had. absurd (false≢true (sym had));
+  failed = λ failed. absurd (false≢true failed);
+  unfailed = λ not_failed. refl;
+  never_falls = omega arith;
+  wanted = λ wanted. inl (none, refl);
+  had = λ had. absurd (false≢true (sym had));
+}
 
 pub stands_so : {A B : Type 0} (stand : DoorStand) → stand ≢ Failed → (stand ≡ Open → A) → (stand ≡ Shut → B) → A ⊎ B
 stands_so Open fine given shut = inl (given refl)

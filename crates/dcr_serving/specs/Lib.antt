@@ -2,3 +2,4 @@ pub mod SeatModel
 pub mod Serving
 pub mod Placing
 pub mod Hands
+pub mod History

@@ -1,6 +1,6 @@
 -- How the sessions of a cluster are served over the links of a door.
-use Rattle.std.specs.Prelude.{◌≡◌, ◌≢◌, ℕ, ◌≤◌, ◌++◌, List, [], length, map, drop, Option, IsSome}
-use Rattle.std.specs.List.{All}
+use Rattle.std.specs.Prelude.{◌≡◌, ◌≢◌, ◌⊎◌, ℕ, ◌<◌, ◌≤◌, ◌++◌, Bool, false, IsTrue, List, [], length, map, drop, Option, IsSome}
+use Rattle.std.specs.List.{All, Any}
 use Rattle.std.specs.Io.KnownBytes.{IsAtEnd}
 use Rattle.dcr_base.specs.Count.{Rose}
 use Rattle.dcr_tape.specs.declared.tape.Store.{Store}
@@ -11,7 +11,7 @@ use Rattle.dcr_serve.specs.Left.{numbers_from, AreAllButFirst, HasNumber}
 use Rattle.dcr_serve.specs.declared.stand.DoorStand.{DoorStand}
 use Rattle.dcr_serve.specs.declared.stand.DoorStand.TheVariants.{Shut, Failed}
 use Rattle.dcr_link.specs.Serving.{AnyRose, Serves}
-use Rattle.dcr_link.specs.declared.end.WorkCause.TheVariants.{Ended, LinkFault, Halted}
+use Rattle.dcr_link.specs.declared.end.WorkCause.TheVariants.{Ended, LinkFault, Halted, NoMemory}
 use Rattle.dcr_link.specs.declared.end.WorkEnd.{WorkEnd}
 use Rattle.dcr_serving.specs.declared.end.LinkEnd.{LinkEnd}
 
@@ -58,6 +58,18 @@ module _ {D L R : Type 0} (tells : Tells L R) (first : Option (Store D)) (capaci
     pub each : All (λ (one : PassValue × LinkEnd L R). IsServedOf links one.0 one.1) served
     pub passes : all_passes ≡ map (λ (one : PassValue × LinkEnd L R). one.0) served ++ drop (length served) (new_passes sessions)
     pub ends : all_ends ≡ map (λ (one : PassValue × LinkEnd L R). one.1) served
+
+-- What became of a door over which so many sessions were served, that have ended so: it has left the links that no session
+-- had; where it didn't fail and no memory was missing, each session had one or the door has shut; that it failed was told
+-- only where its count rose, and that memory was missing only where a session wanted it, or before the door was asked.
+pub record DoorEnds {B L R : Type 0} (links : B → Option (List L)) (is_shut : B → Type 0) (faults : B → ℕ) (before after : B) (sessions : ℕ) (all_ends : List (LinkEnd L R)) (door_failed no_memory : Bool) : Type 0 where
+  pub left : AreAllButFirst (links before) (length all_ends) (links after)
+  pub all : door_failed ≡ false → no_memory ≡ false → (length all_ends ≡ sessions) ⊎ is_shut after
+  pub failed : IsTrue door_failed → Rose (faults before) (faults after)
+  pub unfailed : door_failed ≡ false → faults after ≡ faults before
+  pub never_falls : faults before ≤ faults after
+  pub wanted : IsTrue no_memory → ((all_ends ≡ []) × (after ≡ before)) ⊎ Any (λ (end : LinkEnd L R). end.end.cause ≡ NoMemory) all_ends
+  pub had : no_memory ≡ false → All (λ (end : LinkEnd L R). end.end.cause ≢ NoMemory) all_ends
 
 -- how a door stands that was asked for links until it had given so many, where it had these links and this count of faults
 pub record Stands {B L : Type 0} (links : B → Option (List L)) (is_shut : B → Type 0) (faults : B → ℕ) (all : Option (List L)) (first given : ℕ) (stand : DoorStand) (door : B) : Type 0 where

@@ -6,7 +6,7 @@ ghost use Rattle.dcr_turn.specs.PassValue.{new_passes};
 ghost use Rattle.dcr_serve.specs.Left.{AreAllButFirst};
 ghost use Rattle.dcr_serve.specs.declared.stand.DoorStand.TheVariants.{Failed as HasFailed};
 ghost use Rattle.dcr_link.specs.declared.end.WorkCause.TheVariants.{NoMemory};
-ghost use Rattle.dcr_serving.specs.Serving.{AreServed};
+ghost use Rattle.dcr_serving.specs.Serving.{AreServed, DoorEnds};
 
 use crate::desk::work_at;
 use crate::gather::take_out;
@@ -66,15 +66,8 @@ pub fn serve_sessions<
       failed_writes = B.Link.Rest.failed_writes;
     })
         N.first N.capacity cover.now.names graph.now.names (B.links door) N.turn.sessions result.passes.items result.ends.items }
-    ensures left { AreAllButFirst (B.links door) (length result.ends.items) (B.links result.door) }
-    ensures all { result.door_failed ≡ false → result.no_memory ≡ false
-        → (length result.ends.items ≡ N.turn.sessions) ⊎ B.is_shut result.door }
-    ensures door_failed { IsTrue result.door_failed → Rose (B.faults door) (B.faults result.door) }
-    ensures unfailed { result.door_failed ≡ false → B.faults result.door ≡ B.faults door }
-    ensures never_falls { B.faults door ≤ B.faults result.door }
-    ensures no_memory { IsTrue result.no_memory
-        → ((result.ends.items ≡ []) × (result.door ≡ door)) ⊎ Any (λ one. one.end.cause ≡ NoMemory) result.ends.items }
-    ensures had_memory { result.no_memory ≡ false → All (λ one. one.end.cause ≢ NoMemory) result.ends.items }
+    ensures door { DoorEnds B.links B.is_shut B.faults door result.door N.turn.sessions result.ends.items
+        result.door_failed result.no_memory }
 {
     at_desk::<D, G, N, B, Brand, R>(
         rt,
@@ -126,15 +119,8 @@ fn at_desk<
       failed_writes = B.Link.Rest.failed_writes;
     })
         N.first N.capacity cover.now.names graph.now.names (B.links door) N.turn.sessions result.passes.items result.ends.items }
-    ensures left { AreAllButFirst (B.links door) (length result.ends.items) (B.links result.door) }
-    ensures all { result.door_failed ≡ false → result.no_memory ≡ false
-        → (length result.ends.items ≡ N.turn.sessions) ⊎ B.is_shut result.door }
-    ensures door_failed { IsTrue result.door_failed → Rose (B.faults door) (B.faults result.door) }
-    ensures unfailed { result.door_failed ≡ false → B.faults result.door ≡ B.faults door }
-    ensures never_falls { B.faults door ≤ B.faults result.door }
-    ensures no_memory { IsTrue result.no_memory
-        → ((result.ends.items ≡ []) × (result.door ≡ door)) ⊎ Any (λ one. one.end.cause ≡ NoMemory) result.ends.items }
-    ensures had_memory { result.no_memory ≡ false → All (λ one. one.end.cause ≢ NoMemory) result.ends.items }
+    ensures door { DoorEnds B.links B.is_shut B.faults door result.door N.turn.sessions result.ends.items
+        result.door_failed result.no_memory }
 {
     let sessions = passes.len();
     let Ok(room) = Room::<B::Link, N, M>::new(alloc, sessions, workers as usize) else {

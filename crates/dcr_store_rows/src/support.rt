@@ -1,7 +1,7 @@
 // What the rows have in common: the case of the doctor and the nurse, its tapes, and a run with a store.
 use dcr_app::{Status, dcr};
 use dcr_base::{OpenGate, StdSink, StdSource};
-use dcr_fakes::MemDisk;
+use dcr_fakes::{MemDisk, MemDoor};
 use dcr_tape::{TapeEntry, open_tape};
 use std::alloc::{AllocError, Global};
 use std::process::Abort;
@@ -93,7 +93,17 @@ pub(crate) fn run_file<R: Threads + Wait + Sync>(
     words.push(String::from_str(alloc, "--store")?)?;
     let mut input = StdSource::new(file.as_bytes());
     let mut output = StdSink::new(Vec::with_capacity(alloc, 4096)?);
-    let end = dcr(rt, alloc, &words, &mut input, &mut output, disk, OpenGate);
+    let door = MemDoor::new(Vec::new(alloc), Vec::new(alloc));
+    let end = dcr(
+        rt,
+        alloc,
+        &words,
+        &mut input,
+        &mut output,
+        door,
+        disk,
+        OpenGate,
+    );
     Ok(Ran {
         status: end.status,
         written: output.into_inner(),

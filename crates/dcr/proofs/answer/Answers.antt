@@ -3,4 +3,4 @@ use Rattle.dcr.proofs.answer.Goals as goal
 
 -- the end is that of the call
 pub returns : goal.returns
-returns g c = record { end = c.dcr-end.result; code = c.exit_of.ensures; answers = inl c.dcr-end.ensures.answers }
+returns g c = inl (c.dcr-end.result, c.exit_of.ensures, c.dcr-end.ensures.answers)

@@ -1,15 +1,27 @@
-use Rattle.std.proofs.Common.{◌≡◌, ℕ, Bool, Some, IfSome, ap, subst, sym, ◌∙◌}
+use Rattle.std.proofs.Common.{◌≡◌, ℕ, Bool, Option, Some, IfSome, inl, inr, ap, subst, sym, ◌∙◌}
+use Rattle.dcr_base.specs.Count.{Rose}
 use Rattle.dcr_base.specs.declared.status.Status.{Status}
+use Rattle.dcr_base.specs.declared.status.Status.TheVariants.{DoorFault}
 use Rattle.dcr_json.specs.Case.{case_in}
-use Rattle.dcr_app.specs.Answers.{IsAnsweredCase, IsAnsweredReport, IsToldByOne}
+use Rattle.dcr_app.specs.Answers.{EndsRun, EndsServing, IsAnsweredCase, IsAnsweredReport, IsServing, IsToldByOne}
 use Rattle.dcr_app.specs.Command.{command_in}
+use Rattle.dcr_app.specs.Telling.{LeavesDoor, Telling, by_workers, doors_of, over_links}
+use Rattle.dcr_app.specs.declared.command.Command.{Command}
+use Rattle.dcr_app.specs.declared.command.Command.TheVariants.{Run, Serve}
 use Rattle.dcr_app.specs.declared.app.End.{End}
-use Rattle.dcr_app.specs.declared.command.Command.TheVariants.{Run}
-use Rattle.dcr_app.proofs.CommandLemmas.{one_run}
+use Rattle.dcr_app.proofs.CommandLemmas.{one_run, one_serving}
 use Rattle.dcr_app.proofs.FaultlessLemmas.{answered_case}
+use Rattle.dcr_app.proofs.LinksLemmas.{door_by, full_by, full_told, left_by, no_fewer_by, unasked_by}
 use Rattle.dcr_app.proofs.ReplayLemmas.{answered_report, says_invalid}
 use Rattle.dcr_app.proofs.RunLemmas.{done_throughout, told_by_one}
 use Rattle.dcr_app.proofs.app.dcr.Goals as goal
+
+-- a run is never told as one whose door failed
+run_door_by : (g : _) (c : goal.After-run g) → c.run.result.status ≡ DoorFault → ⊥
+run_door_by g c is =
+    let end = c.run.result in
+    door_by g.D.Disk.view g.D.Disk.faults (by_workers c.in-Some-Run.workers) c.in-Some-Run.store c.args.disk end.disk (g.I.Source.left c.args.input.now) (g.I.Source.has_ended c.run.new.input)
+    (g.O.Sink.taken c.args.output.now) (g.O.Sink.taken c.run.new.output) end.status end.closed c.run.ensures.answers is
 
 -- the run is the one that the words spell
 spelled : (g : _) (c : goal.After-run g) (workers : ℕ) (store : Bool) → command_in c.args.words.now ≡ Some (Run workers store)
@@ -35,19 +47,103 @@ returns-in-Some-Run-clause-done g c = λ workers store is reads writes disks.
     let left = g.I.Source.left c.args.input.now in let has_ended = g.I.Source.has_ended c.run.new.input in
     let had = g.O.Sink.taken c.args.output.now in let took = g.O.Sink.taken c.run.new.output in let end = c.run.result in
     let same = spelled g c workers store is in
-    subst (λ s. IfSome left (λ bytes. IsAnsweredCase s (g.D.Disk.view c.args.disk) (case_in bytes) end.status)) same.1
-    (answered_case g.D.Disk.view g.D.Disk.faults c.when_each_refusal_comes.ensures.cases c.one_list.ensures c.no_cause.ensures c.in-Some-Run.workers c.args.disk end.disk has_ended had took end.status
-    (λ e. reads (c.run.ensures.read_counted e)) (λ e. writes (c.run.ensures.write_counted e)) (λ e. disks (c.run.ensures.disk_counted e)) c.in-Some-Run.store left end.closed c.run.ensures.answers)
+    subst (λ s. IfSome left (λ bytes. IsAnsweredCase EndsRun s (g.D.Disk.view c.args.disk) (case_in bytes) end.status)) same.1
+    (answered_case g.D.Disk.view g.D.Disk.faults c.when_each_refusal_comes.ensures.cases c.one_list.ensures c.no_cause.ensures (by_workers c.in-Some-Run.workers) c.args.disk end.disk has_ended had took
+    end.status (λ e. reads (c.run.ensures.read_counted e)) (λ e. writes (c.run.ensures.write_counted e)) (λ e. disks (c.run.ensures.disk_counted e))
+    (door_by g.D.Disk.view g.D.Disk.faults (by_workers c.in-Some-Run.workers) c.in-Some-Run.store c.args.disk end.disk left has_ended had took end.status end.closed c.run.ensures.answers)
+    EndsRun (λ e. e) (λ e full. absurd full.1) c.in-Some-Run.store left end.closed c.run.ensures.answers)
+
+pub returns-in-Some-Run-clause-door_counted : goal.returns-in-Some-Run-clause-door_counted
+returns-in-Some-Run-clause-door_counted g c = λ is. absurd (run_door_by g c is)
+
+pub returns-in-Some-Run-clause-door_failed : goal.returns-in-Some-Run-clause-door_failed
+returns-in-Some-Run-clause-door_failed g c = λ is. absurd (run_door_by g c is)
+
+pub returns-in-Some-Run-clause-full : goal.returns-in-Some-Run-clause-full
+returns-in-Some-Run-clause-full g c = λ is.
+    let end = c.run.result in
+    let full = full_by g.D.Disk.view g.D.Disk.faults (by_workers c.in-Some-Run.workers) c.in-Some-Run.store c.args.disk end.disk (g.I.Source.left c.args.input.now) (g.I.Source.has_ended c.run.new.input)
+    (g.O.Sink.taken c.args.output.now) (g.O.Sink.taken c.run.new.output) end.status end.closed c.run.ensures.answers is in
+    absurd full.2
+
+-- the serving is the one that the words spell
+serving : (g : _) (c : goal.After-run-in-Some-Serve g) (sessions workers : ℕ) (store : Bool) → command_in c.args.words.now ≡ Some (Serve sessions workers store)
+    → (c.in-Some-Serve.sessions ≡ sessions) × (c.in-Some-Serve.store ≡ store)
+serving g c sessions workers store is =
+    one_serving (command_in c.args.words.now) c.in-Some-Serve.sessions sessions c.in-Some-Serve.workers workers c.in-Some-Serve.store store
+    (sym c.command_of.ensures.spelled ∙ (c.in-Some-Serve.is ∙ ap Some c.in-Some-Serve.field-0-is)) is
+
+-- what is told of its sessions
+abbrev told_serving : (g : _) (c : goal.After-run-in-Some-Serve g) → Telling g.row.D.Denot
+told_serving g c = over_links (doors_of g.B.Door.links g.B.Door.is_shut g.B.Door.faults g.B.Link.Source.left g.B.Link.Sink.taken g.B.Link.Rest.Spent.unread g.B.Link.Rest.Spent.sent g.B.Link.Rest.Spent.failed_reads g.B.Link.Rest.Spent.failed_writes) c.args.door c.run-in-Some-Serve.result.door c.in-Some-Serve.sessions c.run-in-Some-Serve.result.ends.items
+
+serving_door_by : (g : _) (c : goal.After-run-in-Some-Serve g) → c.run-in-Some-Serve.result.status ≡ DoorFault → Rose (g.B.Door.faults c.args.door) (g.B.Door.faults c.run-in-Some-Serve.result.door)
+serving_door_by g c is =
+    let end = c.run-in-Some-Serve.result in
+    door_by g.D.Disk.view g.D.Disk.faults (told_serving g c) c.in-Some-Serve.store c.args.disk end.disk (g.I.Source.left c.args.input.now) (g.I.Source.has_ended c.run-in-Some-Serve.new.input)
+    (g.O.Sink.taken c.args.output.now) (g.O.Sink.taken c.run-in-Some-Serve.new.output) end.status end.closed c.run-in-Some-Serve.ensures.answers is
+
+is_serving : (command : Option Command) (sessions workers : ℕ) (store : Bool) → command ≡ Some (Serve sessions workers store) → IsServing command
+is_serving command sessions workers store is = subst IsServing (sym is) tt
+
+serves : (g : _) (c : goal.After-run-in-Some-Serve g) → IsServing (command_in c.args.words.now)
+serves g c =
+    is_serving (command_in c.args.words.now) c.in-Some-Serve.sessions c.in-Some-Serve.workers c.in-Some-Serve.store
+    (sym c.command_of.ensures.spelled ∙ (c.in-Some-Serve.is ∙ ap Some c.in-Some-Serve.field-0-is))
+
+pub returns-in-Some-Serve-clause-door_counted : goal.returns-in-Some-Serve-clause-door_counted
+returns-in-Some-Serve-clause-door_counted g c = serving_door_by g c
+
+pub returns-in-Some-Serve-clause-doors_never_fall : goal.returns-in-Some-Serve-clause-doors_never_fall
+returns-in-Some-Serve-clause-doors_never_fall g c =
+    let end = c.run-in-Some-Serve.result in
+    no_fewer_by (doors_of g.B.Door.links g.B.Door.is_shut g.B.Door.faults g.B.Link.Source.left g.B.Link.Sink.taken g.B.Link.Rest.Spent.unread g.B.Link.Rest.Spent.sent g.B.Link.Rest.Spent.failed_reads g.B.Link.Rest.Spent.failed_writes) c.in-Some-Serve.sessions end.closed c.args.door end.door end.ends.items end.status c.run-in-Some-Serve.ensures.door
+
+pub returns-in-Some-Serve-clause-unserved : goal.returns-in-Some-Serve-clause-unserved
+returns-in-Some-Serve-clause-unserved g c = λ never. absurd (never (serves g c))
+
+pub returns-in-Some-Serve-clause-unasked : goal.returns-in-Some-Serve-clause-unasked
+returns-in-Some-Serve-clause-unasked g c =
+    let end = c.run-in-Some-Serve.result in
+    unasked_by (doors_of g.B.Door.links g.B.Door.is_shut g.B.Door.faults g.B.Link.Source.left g.B.Link.Sink.taken g.B.Link.Rest.Spent.unread g.B.Link.Rest.Spent.sent g.B.Link.Rest.Spent.failed_reads g.B.Link.Rest.Spent.failed_writes) c.in-Some-Serve.sessions end.closed c.args.door end.door end.ends.items end.status c.run-in-Some-Serve.ensures.door
+
+pub returns-in-Some-Serve-clause-door_failed : goal.returns-in-Some-Serve-clause-door_failed
+returns-in-Some-Serve-clause-door_failed g c = λ is. serves g c
+
+pub returns-in-Some-Serve-clause-full : goal.returns-in-Some-Serve-clause-full
+returns-in-Some-Serve-clause-full g c = λ is.
+    let end = c.run-in-Some-Serve.result in (
+      serves g c,
+      full_told end.closed
+          (full_by g.D.Disk.view g.D.Disk.faults (told_serving g c) c.in-Some-Serve.store c.args.disk end.disk (g.I.Source.left c.args.input.now) (g.I.Source.has_ended c.run-in-Some-Serve.new.input)
+          (g.O.Sink.taken c.args.output.now) (g.O.Sink.taken c.run-in-Some-Serve.new.output) end.status end.closed c.run-in-Some-Serve.ensures.answers is),
+    )
+
+pub returns-in-Some-Serve-clause-left : goal.returns-in-Some-Serve-clause-left
+returns-in-Some-Serve-clause-left g c = λ sessions workers store is.
+    let end = c.run-in-Some-Serve.result in
+    subst (λ n. IfSome end.closed (λ closed. LeavesDoor (doors_of g.B.Door.links g.B.Door.is_shut g.B.Door.faults g.B.Link.Source.left g.B.Link.Sink.taken g.B.Link.Rest.Spent.unread g.B.Link.Rest.Spent.sent g.B.Link.Rest.Spent.failed_reads g.B.Link.Rest.Spent.failed_writes) c.args.door end.door n end.ends.items end.status)) (serving g c sessions workers store is).0
+    (left_by (doors_of g.B.Door.links g.B.Door.is_shut g.B.Door.faults g.B.Link.Source.left g.B.Link.Sink.taken g.B.Link.Rest.Spent.unread g.B.Link.Rest.Spent.sent g.B.Link.Rest.Spent.failed_reads g.B.Link.Rest.Spent.failed_writes) c.in-Some-Serve.sessions end.closed c.args.door end.door end.ends.items end.status c.run-in-Some-Serve.ensures.door)
+
+pub returns-in-Some-Serve-clause-served : goal.returns-in-Some-Serve-clause-served
+returns-in-Some-Serve-clause-served g c = λ sessions workers store is reads writes disks door_holds.
+    let run = c.run-in-Some-Serve.ensures in let end = c.run-in-Some-Serve.result in
+    let left = g.I.Source.left c.args.input.now in let has_ended = g.I.Source.has_ended c.run-in-Some-Serve.new.input in
+    let had = g.O.Sink.taken c.args.output.now in let took = g.O.Sink.taken c.run-in-Some-Serve.new.output in
+    subst (λ s. IfSome left (λ bytes. IsAnsweredCase EndsServing s (g.D.Disk.view c.args.disk) (case_in bytes) end.status)) (serving g c sessions workers store is).1
+    (answered_case g.D.Disk.view g.D.Disk.faults c.when_each_refusal_comes-in-Some-Serve.ensures.cases c.one_list-in-Some-Serve.ensures c.no_cause-in-Some-Serve.ensures (told_serving g c) c.args.disk end.disk has_ended
+    had took end.status (λ e. reads (run.read_counted e)) (λ e. writes (run.write_counted e)) (λ e. disks (run.disk_counted e)) (λ e. door_holds (serving_door_by g c e))
+    EndsServing (λ e. inr e) (λ e full. inl e) c.in-Some-Serve.store left end.closed run.answers)
 
 pub returns-in-Some-Replay-clause-invalid : goal.returns-in-Some-Replay-clause-invalid
 returns-in-Some-Replay-clause-invalid g c = λ invalid.
-    let status = ap (λ (e : End g.row.D.Denot). e.status) c.over-in-Some-Replay.ensures in
+    let status = (ap (λ (e : End _ _ _ _). e.status) c.over-in-Some-Replay.ensures) in
     says_invalid (g.I.Source.left c.args.input.now) (g.O.Sink.taken c.args.output.now) (g.O.Sink.taken c.replay.new.output) c.replay.result.status
     c.valid_is_report.ensures c.a_text_has_one_verdict.ensures c.the_first_wrong_line_is_told.ensures (sym status ∙ invalid) c.replay.ensures.answers
 
 pub returns-in-Some-Replay-clause-checked : goal.returns-in-Some-Replay-clause-checked
 returns-in-Some-Replay-clause-checked g c = λ _ reads writes.
-    let status = ap (λ (e : End g.row.D.Denot). e.status) c.over-in-Some-Replay.ensures in let left = g.I.Source.left c.args.input.now in
+    let status = (ap (λ (e : End _ _ _ _). e.status) c.over-in-Some-Replay.ensures) in let left = g.I.Source.left c.args.input.now in
     subst (λ (s : Status). IfSome left (λ bytes. IsAnsweredReport bytes s)) (sym status)
     (answered_report left (g.O.Sink.taken c.args.output.now) (g.O.Sink.taken c.replay.new.output) c.replay.result.status c.a_text_has_one_verdict.ensures
     (λ is. reads (c.replay.ensures.read_counted is)) (λ is. writes (c.replay.ensures.write_counted is)) c.replay.ensures.answers)

@@ -10,7 +10,7 @@ use Rattle.dcr_serving.specs.Placing.{HasRoom, filled}
 use Rattle.dcr_serving.specs.Serving.{AreServed, Stands}
 use Rattle.dcr_serving.specs.declared.end.LinkEnd.{LinkEnd}
 use Rattle.dcr_serving.proofs.DeskLemmas.{count_is, in_order, left_many, settled, taken_out}
-use Rattle.dcr_serving.proofs.ServingLemmas.{length-new, numbers_new, served_first, served_none, stands_so}
+use Rattle.dcr_serving.proofs.ServingLemmas.{door_unasked, length-new, numbers_new, served_first, served_none, stands_so}
 use Rattle.dcr_serving.proofs.serve.at_desk.Goals as goal
 
 pub returns-in_default-clause-served : goal.returns-in_default-clause-served
@@ -25,6 +25,10 @@ returns-in_default-clause-served g c =
     })
     g.N.StoreName.first g.N.TurnName.capacity c.args.cover.now.names c.args.graph.now.names (g.B.Door.links c.args.door) g.N.TurnName.turn.sessions c.args.passes.items c.new-in_default.result.items
     c.requires.passes c.new-in_default.ensures.items
+
+pub returns-in_default-clause-door : goal.returns-in_default-clause-door
+returns-in_default-clause-door g c =
+    door_unasked g.B.Door.links g.B.Door.is_shut g.B.Door.faults c.args.door g.N.TurnName.turn.sessions c.new-in_default.result.items c.new-in_default.ensures.items
 
 pub seated-seats-requires-clause-new : goal.seated-seats-requires-clause-new
 seated-seats-requires-clause-new g c =
@@ -190,8 +194,8 @@ returns-clause-served g c =
     })
     g.N.StoreName.first g.N.TurnName.capacity c.args.cover.now.names c.args.graph.now.names g.M.DeskName.links k c.go_on-stand.new.passes.items c.go_on-stand.new.ends.items) total way.0)
 
-pub returns-clause-left : goal.returns-clause-left
-returns-clause-left g c =
+pub returns-clause-door : goal.returns-clause-door
+returns-clause-door g c =
     let n : ℕ = g.N.TurnName.turn.sessions in
     let sessions : c.len-sessions.result ≡ n = c.len-sessions.ensures ∙ c.args.passes.ok.0 ∙ ap (λ (l : List PassValue). length l) c.requires.passes ∙ length-new n in
     let slots = c.work_at-door.new.slots in
@@ -244,234 +248,12 @@ returns-clause-left g c =
     (subst (λ (k : ℕ). Stands g.B.Door.links g.B.Door.is_shut g.B.Door.faults g.M.DeskName.links g.M.DeskName.faults k c.work_at-door.result.2 c.work_at-door.result.0) (sym ends_many) c.work_at-door.ensures.stands)
     (λ is. ends_many ∙ sym passes_many) in
     let total : length c.take_out.new.passes.items + length left ≡ n = ap (λ (k : ℕ). k + length left) passes_many ∙ counts.2 in
-    subst (λ (links : Option (List g.row.B-Link.Denot)). AreAllButFirst links (length c.go_on-stand.new.ends.items) (g.B.Door.links c.go_on-stand.new.door)) (sym c.requires.links) way.1.left
-
-pub returns-clause-all : goal.returns-clause-all
-returns-clause-all g c =
-    let n : ℕ = g.N.TurnName.turn.sessions in
-    let sessions : c.len-sessions.result ≡ n = c.len-sessions.ensures ∙ c.args.passes.ok.0 ∙ ap (λ (l : List PassValue). length l) c.requires.passes ∙ length-new n in
-    let slots = c.work_at-door.new.slots in
-    let left = c.work_at-door.result.1.items in
-    let t : ℕ = length (filled slots) in
-    let full = settled slots left g.M.DeskName.items c.work_at-door.ensures.as_many c.work_at-door.ensures.within c.work_at-door.ensures.left c.work_at-door.ensures.free in
-    let counts = count_is c.len-sessions.result c.len.result (length left) t g.M.DeskName.items n sessions c.requires.items (c.len.ensures ∙ c.work_at-door.result.1.ok.0) (left_many left t g.M.DeskName.items c.work_at-door.ensures.left) c.work_at-door.ensures.within in
-    let passes_are = taken_out (λ one. one.pass) slots c.in-Ok.room.passes.items c.take_out.new.passes.items (c.len-sessions.result - c.len.result) c.in-Ok.ensures.passes.0 counts.0 full.1 c.take_out.ensures.passes in
-    let ends_are = taken_out (λ one. one.end) slots c.in-Ok.room.ends.items c.take_out.new.ends.items (c.len-sessions.result - c.len.result) c.in-Ok.ensures.ends.0 counts.0 full.1 c.take_out.ensures.ends in
-    let passes_many : length c.take_out.new.passes.items ≡ t = ap (λ (l : List PassValue). length l) passes_are ∙ length-map (filled slots) (λ one. one.pass) in
-    let ends_many : length c.take_out.new.ends.items ≡ t = ap (λ l. length l) ends_are ∙ length-map (filled slots) (λ one. one.end) in
-    let first_ones = served_first (record {
-      left = g.B.Link.Source.left;
-      taken = g.B.Link.Sink.taken;
-      unread = g.B.Link.Rest.Spent.unread;
-      sent = g.B.Link.Rest.Spent.sent;
-      failed_reads = g.B.Link.Rest.Spent.failed_reads;
-      failed_writes = g.B.Link.Rest.Spent.failed_writes;
-    })
-    g.N.StoreName.first g.N.TurnName.capacity c.args.cover.now.names c.args.graph.now.names g.M.DeskName.links (filled slots)
-    (in_order slots t (subst (λ (k : ℕ). t ≤ k) (sym c.work_at-door.ensures.as_many) c.work_at-door.ensures.within) c.work_at-door.ensures.in_place full.0 full.1) c.work_at-door.ensures.served in
-    let way = c.go_on-stand.ensures.goes_on g.M.DeskName.links g.M.DeskName.faults
-    (subst (λ (k : ℕ). AreServed (record {
-      left = g.B.Link.Source.left;
-      taken = g.B.Link.Sink.taken;
-      unread = g.B.Link.Rest.Spent.unread;
-      sent = g.B.Link.Rest.Spent.sent;
-      failed_reads = g.B.Link.Rest.Spent.failed_reads;
-      failed_writes = g.B.Link.Rest.Spent.failed_writes;
-    })
-    g.N.StoreName.first g.N.TurnName.capacity c.args.cover.now.names c.args.graph.now.names g.M.DeskName.links k c.take_out.new.passes.items c.take_out.new.ends.items) (sym passes_many)
-    (subst (λ (l : List PassValue). AreServed (record {
-      left = g.B.Link.Source.left;
-      taken = g.B.Link.Sink.taken;
-      unread = g.B.Link.Rest.Spent.unread;
-      sent = g.B.Link.Rest.Spent.sent;
-      failed_reads = g.B.Link.Rest.Spent.failed_reads;
-      failed_writes = g.B.Link.Rest.Spent.failed_writes;
-    })
-    g.N.StoreName.first g.N.TurnName.capacity c.args.cover.now.names c.args.graph.now.names g.M.DeskName.links t l c.take_out.new.ends.items) (sym passes_are)
-    (subst (λ (l : List (LinkEnd g.row.B-Link.Denot g.row.B-Link-Rest.Denot)). AreServed (record {
-      left = g.B.Link.Source.left;
-      taken = g.B.Link.Sink.taken;
-      unread = g.B.Link.Rest.Spent.unread;
-      sent = g.B.Link.Rest.Spent.sent;
-      failed_reads = g.B.Link.Rest.Spent.failed_reads;
-      failed_writes = g.B.Link.Rest.Spent.failed_writes;
-    })
-    g.N.StoreName.first g.N.TurnName.capacity c.args.cover.now.names c.args.graph.now.names g.M.DeskName.links t (map (λ one. one.pass) (filled slots)) l) (sym ends_are) first_ones)))
-    (subst (λ (k : ℕ). Stands g.B.Door.links g.B.Door.is_shut g.B.Door.faults g.M.DeskName.links g.M.DeskName.faults k c.work_at-door.result.2 c.work_at-door.result.0) (sym ends_many) c.work_at-door.ensures.stands)
-    (λ is. ends_many ∙ sym passes_many) in
-    let total : length c.take_out.new.passes.items + length left ≡ n = ap (λ (k : ℕ). k + length left) passes_many ∙ counts.2 in
-    λ not_failed had. stands_so c.go_on-stand.result (c.has_failed.ensures.not_failed not_failed) (λ is. way.2 is ∙ total) way.1.shut
-
-pub returns-clause-door_failed : goal.returns-clause-door_failed
-returns-clause-door_failed g c =
-    let n : ℕ = g.N.TurnName.turn.sessions in
-    let sessions : c.len-sessions.result ≡ n = c.len-sessions.ensures ∙ c.args.passes.ok.0 ∙ ap (λ (l : List PassValue). length l) c.requires.passes ∙ length-new n in
-    let slots = c.work_at-door.new.slots in
-    let left = c.work_at-door.result.1.items in
-    let t : ℕ = length (filled slots) in
-    let full = settled slots left g.M.DeskName.items c.work_at-door.ensures.as_many c.work_at-door.ensures.within c.work_at-door.ensures.left c.work_at-door.ensures.free in
-    let counts = count_is c.len-sessions.result c.len.result (length left) t g.M.DeskName.items n sessions c.requires.items (c.len.ensures ∙ c.work_at-door.result.1.ok.0) (left_many left t g.M.DeskName.items c.work_at-door.ensures.left) c.work_at-door.ensures.within in
-    let passes_are = taken_out (λ one. one.pass) slots c.in-Ok.room.passes.items c.take_out.new.passes.items (c.len-sessions.result - c.len.result) c.in-Ok.ensures.passes.0 counts.0 full.1 c.take_out.ensures.passes in
-    let ends_are = taken_out (λ one. one.end) slots c.in-Ok.room.ends.items c.take_out.new.ends.items (c.len-sessions.result - c.len.result) c.in-Ok.ensures.ends.0 counts.0 full.1 c.take_out.ensures.ends in
-    let passes_many : length c.take_out.new.passes.items ≡ t = ap (λ (l : List PassValue). length l) passes_are ∙ length-map (filled slots) (λ one. one.pass) in
-    let ends_many : length c.take_out.new.ends.items ≡ t = ap (λ l. length l) ends_are ∙ length-map (filled slots) (λ one. one.end) in
-    let first_ones = served_first (record {
-      left = g.B.Link.Source.left;
-      taken = g.B.Link.Sink.taken;
-      unread = g.B.Link.Rest.Spent.unread;
-      sent = g.B.Link.Rest.Spent.sent;
-      failed_reads = g.B.Link.Rest.Spent.failed_reads;
-      failed_writes = g.B.Link.Rest.Spent.failed_writes;
-    })
-    g.N.StoreName.first g.N.TurnName.capacity c.args.cover.now.names c.args.graph.now.names g.M.DeskName.links (filled slots)
-    (in_order slots t (subst (λ (k : ℕ). t ≤ k) (sym c.work_at-door.ensures.as_many) c.work_at-door.ensures.within) c.work_at-door.ensures.in_place full.0 full.1) c.work_at-door.ensures.served in
-    let way = c.go_on-stand.ensures.goes_on g.M.DeskName.links g.M.DeskName.faults
-    (subst (λ (k : ℕ). AreServed (record {
-      left = g.B.Link.Source.left;
-      taken = g.B.Link.Sink.taken;
-      unread = g.B.Link.Rest.Spent.unread;
-      sent = g.B.Link.Rest.Spent.sent;
-      failed_reads = g.B.Link.Rest.Spent.failed_reads;
-      failed_writes = g.B.Link.Rest.Spent.failed_writes;
-    })
-    g.N.StoreName.first g.N.TurnName.capacity c.args.cover.now.names c.args.graph.now.names g.M.DeskName.links k c.take_out.new.passes.items c.take_out.new.ends.items) (sym passes_many)
-    (subst (λ (l : List PassValue). AreServed (record {
-      left = g.B.Link.Source.left;
-      taken = g.B.Link.Sink.taken;
-      unread = g.B.Link.Rest.Spent.unread;
-      sent = g.B.Link.Rest.Spent.sent;
-      failed_reads = g.B.Link.Rest.Spent.failed_reads;
-      failed_writes = g.B.Link.Rest.Spent.failed_writes;
-    })
-    g.N.StoreName.first g.N.TurnName.capacity c.args.cover.now.names c.args.graph.now.names g.M.DeskName.links t l c.take_out.new.ends.items) (sym passes_are)
-    (subst (λ (l : List (LinkEnd g.row.B-Link.Denot g.row.B-Link-Rest.Denot)). AreServed (record {
-      left = g.B.Link.Source.left;
-      taken = g.B.Link.Sink.taken;
-      unread = g.B.Link.Rest.Spent.unread;
-      sent = g.B.Link.Rest.Spent.sent;
-      failed_reads = g.B.Link.Rest.Spent.failed_reads;
-      failed_writes = g.B.Link.Rest.Spent.failed_writes;
-    })
-    g.N.StoreName.first g.N.TurnName.capacity c.args.cover.now.names c.args.graph.now.names g.M.DeskName.links t (map (λ one. one.pass) (filled slots)) l) (sym ends_are) first_ones)))
-    (subst (λ (k : ℕ). Stands g.B.Door.links g.B.Door.is_shut g.B.Door.faults g.M.DeskName.links g.M.DeskName.faults k c.work_at-door.result.2 c.work_at-door.result.0) (sym ends_many) c.work_at-door.ensures.stands)
-    (λ is. ends_many ∙ sym passes_many) in
-    let total : length c.take_out.new.passes.items + length left ≡ n = ap (λ (k : ℕ). k + length left) passes_many ∙ counts.2 in
-    λ failed. subst (λ (k : ℕ). Rose k (g.B.Door.faults c.go_on-stand.new.door)) (sym c.requires.faults) (way.1.failed (c.has_failed.ensures.failed failed))
-
-pub returns-clause-unfailed : goal.returns-clause-unfailed
-returns-clause-unfailed g c =
-    let n : ℕ = g.N.TurnName.turn.sessions in
-    let sessions : c.len-sessions.result ≡ n = c.len-sessions.ensures ∙ c.args.passes.ok.0 ∙ ap (λ (l : List PassValue). length l) c.requires.passes ∙ length-new n in
-    let slots = c.work_at-door.new.slots in
-    let left = c.work_at-door.result.1.items in
-    let t : ℕ = length (filled slots) in
-    let full = settled slots left g.M.DeskName.items c.work_at-door.ensures.as_many c.work_at-door.ensures.within c.work_at-door.ensures.left c.work_at-door.ensures.free in
-    let counts = count_is c.len-sessions.result c.len.result (length left) t g.M.DeskName.items n sessions c.requires.items (c.len.ensures ∙ c.work_at-door.result.1.ok.0) (left_many left t g.M.DeskName.items c.work_at-door.ensures.left) c.work_at-door.ensures.within in
-    let passes_are = taken_out (λ one. one.pass) slots c.in-Ok.room.passes.items c.take_out.new.passes.items (c.len-sessions.result - c.len.result) c.in-Ok.ensures.passes.0 counts.0 full.1 c.take_out.ensures.passes in
-    let ends_are = taken_out (λ one. one.end) slots c.in-Ok.room.ends.items c.take_out.new.ends.items (c.len-sessions.result - c.len.result) c.in-Ok.ensures.ends.0 counts.0 full.1 c.take_out.ensures.ends in
-    let passes_many : length c.take_out.new.passes.items ≡ t = ap (λ (l : List PassValue). length l) passes_are ∙ length-map (filled slots) (λ one. one.pass) in
-    let ends_many : length c.take_out.new.ends.items ≡ t = ap (λ l. length l) ends_are ∙ length-map (filled slots) (λ one. one.end) in
-    let first_ones = served_first (record {
-      left = g.B.Link.Source.left;
-      taken = g.B.Link.Sink.taken;
-      unread = g.B.Link.Rest.Spent.unread;
-      sent = g.B.Link.Rest.Spent.sent;
-      failed_reads = g.B.Link.Rest.Spent.failed_reads;
-      failed_writes = g.B.Link.Rest.Spent.failed_writes;
-    })
-    g.N.StoreName.first g.N.TurnName.capacity c.args.cover.now.names c.args.graph.now.names g.M.DeskName.links (filled slots)
-    (in_order slots t (subst (λ (k : ℕ). t ≤ k) (sym c.work_at-door.ensures.as_many) c.work_at-door.ensures.within) c.work_at-door.ensures.in_place full.0 full.1) c.work_at-door.ensures.served in
-    let way = c.go_on-stand.ensures.goes_on g.M.DeskName.links g.M.DeskName.faults
-    (subst (λ (k : ℕ). AreServed (record {
-      left = g.B.Link.Source.left;
-      taken = g.B.Link.Sink.taken;
-      unread = g.B.Link.Rest.Spent.unread;
-      sent = g.B.Link.Rest.Spent.sent;
-      failed_reads = g.B.Link.Rest.Spent.failed_reads;
-      failed_writes = g.B.Link.Rest.Spent.failed_writes;
-    })
-    g.N.StoreName.first g.N.TurnName.capacity c.args.cover.now.names c.args.graph.now.names g.M.DeskName.links k c.take_out.new.passes.items c.take_out.new.ends.items) (sym passes_many)
-    (subst (λ (l : List PassValue). AreServed (record {
-      left = g.B.Link.Source.left;
-      taken = g.B.Link.Sink.taken;
-      unread = g.B.Link.Rest.Spent.unread;
-      sent = g.B.Link.Rest.Spent.sent;
-      failed_reads = g.B.Link.Rest.Spent.failed_reads;
-      failed_writes = g.B.Link.Rest.Spent.failed_writes;
-    })
-    g.N.StoreName.first g.N.TurnName.capacity c.args.cover.now.names c.args.graph.now.names g.M.DeskName.links t l c.take_out.new.ends.items) (sym passes_are)
-    (subst (λ (l : List (LinkEnd g.row.B-Link.Denot g.row.B-Link-Rest.Denot)). AreServed (record {
-      left = g.B.Link.Source.left;
-      taken = g.B.Link.Sink.taken;
-      unread = g.B.Link.Rest.Spent.unread;
-      sent = g.B.Link.Rest.Spent.sent;
-      failed_reads = g.B.Link.Rest.Spent.failed_reads;
-      failed_writes = g.B.Link.Rest.Spent.failed_writes;
-    })
-    g.N.StoreName.first g.N.TurnName.capacity c.args.cover.now.names c.args.graph.now.names g.M.DeskName.links t (map (λ one. one.pass) (filled slots)) l) (sym ends_are) first_ones)))
-    (subst (λ (k : ℕ). Stands g.B.Door.links g.B.Door.is_shut g.B.Door.faults g.M.DeskName.links g.M.DeskName.faults k c.work_at-door.result.2 c.work_at-door.result.0) (sym ends_many) c.work_at-door.ensures.stands)
-    (λ is. ends_many ∙ sym passes_many) in
-    let total : length c.take_out.new.passes.items + length left ≡ n = ap (λ (k : ℕ). k + length left) passes_many ∙ counts.2 in
-    λ not_failed. way.1.unfailed (c.has_failed.ensures.not_failed not_failed) ∙ sym c.requires.faults
-
-pub returns-clause-never_falls : goal.returns-clause-never_falls
-returns-clause-never_falls g c =
-    let n : ℕ = g.N.TurnName.turn.sessions in
-    let sessions : c.len-sessions.result ≡ n = c.len-sessions.ensures ∙ c.args.passes.ok.0 ∙ ap (λ (l : List PassValue). length l) c.requires.passes ∙ length-new n in
-    let slots = c.work_at-door.new.slots in
-    let left = c.work_at-door.result.1.items in
-    let t : ℕ = length (filled slots) in
-    let full = settled slots left g.M.DeskName.items c.work_at-door.ensures.as_many c.work_at-door.ensures.within c.work_at-door.ensures.left c.work_at-door.ensures.free in
-    let counts = count_is c.len-sessions.result c.len.result (length left) t g.M.DeskName.items n sessions c.requires.items (c.len.ensures ∙ c.work_at-door.result.1.ok.0) (left_many left t g.M.DeskName.items c.work_at-door.ensures.left) c.work_at-door.ensures.within in
-    let passes_are = taken_out (λ one. one.pass) slots c.in-Ok.room.passes.items c.take_out.new.passes.items (c.len-sessions.result - c.len.result) c.in-Ok.ensures.passes.0 counts.0 full.1 c.take_out.ensures.passes in
-    let ends_are = taken_out (λ one. one.end) slots c.in-Ok.room.ends.items c.take_out.new.ends.items (c.len-sessions.result - c.len.result) c.in-Ok.ensures.ends.0 counts.0 full.1 c.take_out.ensures.ends in
-    let passes_many : length c.take_out.new.passes.items ≡ t = ap (λ (l : List PassValue). length l) passes_are ∙ length-map (filled slots) (λ one. one.pass) in
-    let ends_many : length c.take_out.new.ends.items ≡ t = ap (λ l. length l) ends_are ∙ length-map (filled slots) (λ one. one.end) in
-    let first_ones = served_first (record {
-      left = g.B.Link.Source.left;
-      taken = g.B.Link.Sink.taken;
-      unread = g.B.Link.Rest.Spent.unread;
-      sent = g.B.Link.Rest.Spent.sent;
-      failed_reads = g.B.Link.Rest.Spent.failed_reads;
-      failed_writes = g.B.Link.Rest.Spent.failed_writes;
-    })
-    g.N.StoreName.first g.N.TurnName.capacity c.args.cover.now.names c.args.graph.now.names g.M.DeskName.links (filled slots)
-    (in_order slots t (subst (λ (k : ℕ). t ≤ k) (sym c.work_at-door.ensures.as_many) c.work_at-door.ensures.within) c.work_at-door.ensures.in_place full.0 full.1) c.work_at-door.ensures.served in
-    let way = c.go_on-stand.ensures.goes_on g.M.DeskName.links g.M.DeskName.faults
-    (subst (λ (k : ℕ). AreServed (record {
-      left = g.B.Link.Source.left;
-      taken = g.B.Link.Sink.taken;
-      unread = g.B.Link.Rest.Spent.unread;
-      sent = g.B.Link.Rest.Spent.sent;
-      failed_reads = g.B.Link.Rest.Spent.failed_reads;
-      failed_writes = g.B.Link.Rest.Spent.failed_writes;
-    })
-    g.N.StoreName.first g.N.TurnName.capacity c.args.cover.now.names c.args.graph.now.names g.M.DeskName.links k c.take_out.new.passes.items c.take_out.new.ends.items) (sym passes_many)
-    (subst (λ (l : List PassValue). AreServed (record {
-      left = g.B.Link.Source.left;
-      taken = g.B.Link.Sink.taken;
-      unread = g.B.Link.Rest.Spent.unread;
-      sent = g.B.Link.Rest.Spent.sent;
-      failed_reads = g.B.Link.Rest.Spent.failed_reads;
-      failed_writes = g.B.Link.Rest.Spent.failed_writes;
-    })
-    g.N.StoreName.first g.N.TurnName.capacity c.args.cover.now.names c.args.graph.now.names g.M.DeskName.links t l c.take_out.new.ends.items) (sym passes_are)
-    (subst (λ (l : List (LinkEnd g.row.B-Link.Denot g.row.B-Link-Rest.Denot)). AreServed (record {
-      left = g.B.Link.Source.left;
-      taken = g.B.Link.Sink.taken;
-      unread = g.B.Link.Rest.Spent.unread;
-      sent = g.B.Link.Rest.Spent.sent;
-      failed_reads = g.B.Link.Rest.Spent.failed_reads;
-      failed_writes = g.B.Link.Rest.Spent.failed_writes;
-    })
-    g.N.StoreName.first g.N.TurnName.capacity c.args.cover.now.names c.args.graph.now.names g.M.DeskName.links t (map (λ one. one.pass) (filled slots)) l) (sym ends_are) first_ones)))
-    (subst (λ (k : ℕ). Stands g.B.Door.links g.B.Door.is_shut g.B.Door.faults g.M.DeskName.links g.M.DeskName.faults k c.work_at-door.result.2 c.work_at-door.result.0) (sym ends_many) c.work_at-door.ensures.stands)
-    (λ is. ends_many ∙ sym passes_many) in
-    let total : length c.take_out.new.passes.items + length left ≡ n = ap (λ (k : ℕ). k + length left) passes_many ∙ counts.2 in
-    subst (λ (k : ℕ). k ≤ g.B.Door.faults c.go_on-stand.new.door) (sym c.requires.faults) way.1.never_falls
-
-pub returns-clause-no_memory : goal.returns-clause-no_memory
-returns-clause-no_memory g c = λ wanted. inr (subst (Any (λ one. one.end.cause ≡ NoMemory)) c.deref.ensures.value (c.any_wanted-no_memory.ensures.some wanted))
-
-pub returns-clause-had_memory : goal.returns-clause-had_memory
-returns-clause-had_memory g c = λ had. subst (All (λ one. one.end.cause ≢ NoMemory)) c.deref.ensures.value (c.any_wanted-no_memory.ensures.none had)
+    record {
+      left = subst (λ (links : Option (List g.row.B-Link.Denot)). AreAllButFirst links (length c.go_on-stand.new.ends.items) (g.B.Door.links c.go_on-stand.new.door)) (sym c.requires.links) way.1.left;
+      all = λ not_failed had. stands_so c.go_on-stand.result (c.has_failed.ensures.not_failed not_failed) (λ is. way.2 is ∙ total) way.1.shut;
+      failed = λ failed. subst (λ (k : ℕ). Rose k (g.B.Door.faults c.go_on-stand.new.door)) (sym c.requires.faults) (way.1.failed (c.has_failed.ensures.failed failed));
+      unfailed = λ not_failed. way.1.unfailed (c.has_failed.ensures.not_failed not_failed) ∙ sym c.requires.faults;
+      never_falls = subst (λ (k : ℕ). k ≤ g.B.Door.faults c.go_on-stand.new.door) (sym c.requires.faults) way.1.never_falls;
+      wanted = λ wanted. inr (subst (Any (λ one. one.end.cause ≡ NoMemory)) c.deref.ensures.value (c.any_wanted-no_memory.ensures.some wanted));
+      had = λ had. subst (All (λ one. one.end.cause ≢ NoMemory)) c.deref.ensures.value (c.any_wanted-no_memory.ensures.none had);
+    }
