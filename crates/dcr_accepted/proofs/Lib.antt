@@ -1,5 +1,4 @@
 mod StringLemmas
 mod ValueLemmas
 mod GivenLemmas
-mod LengthLemmas
 mod FileLemmas

@@ -1,4 +1,4 @@
 pub mod PlainLemmas
 mod LineLemmas
 pub mod Utf8Lemmas
-mod ListLemmas
+pub mod ListLemmas

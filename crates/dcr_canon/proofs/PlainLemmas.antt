@@ -19,7 +19,7 @@ use Rattle.dcr_nest.specs.Nest.{Nest, names_of}
 use Rattle.dcr_proj.specs.CoverValue.{Owners}
 use Rattle.dcr_set.specs.EventSet.{Set, numbers}
 use Rattle.dcr_graph.specs.KindText.{kind_text}
-use Rattle.dcr_canon.specs.GraphText.{name_value, parent_member, node_value, relation_value, graph_value}
+use Rattle.dcr_canon.specs.GraphText.{name_value, parent_member, node_value, relation_value, relation_values, graph_value}
 use Rattle.dcr_canon.specs.CoverText.{site_value, cover_value}
 
 -- the value has no number, its keys are in order, and it nests at most n deep
@@ -127,13 +127,16 @@ plain_relation names relation =
     (plain_item 0 _ _ (plain_string 0 (kind_text relation.0))
     (plain_item 0 _ _ (plain_string 0 (slice_index_or names relation.1 [])) (plain_item 0 _ _ (plain_string 0 (slice_index_or names relation.2 [])) (no_plain_item 0))))
 
+pub plain_relations : (names : List (List ℕ)) (relations : List Pair) → ArePlain 1 (items_of (relation_values names relations))
+plain_relations names relations = plain_items 1 (relation_value names) (plain_relation names) relations
+
 pub plain_graph : (N : Nest) → IsPlain 3 (graph_value N)
 unfolding graph_value
 plain_graph N =
     let names = names_of N.nodes in
     plain_pair 2 (codes "events") (codes "relations") _ _ refl
     (plain_array 1 _ (plain_items 1 (node_value names) (λ node. plain_node names node.name node.label node.parent) N.nodes))
-    (plain_array 1 _ (plain_items 1 (relation_value names) (plain_relation names) N.relations))
+    (plain_array 1 _ (plain_relations names N.relations))
 
 plain_site : (atoms : List (List ℕ)) (name : List ℕ) (owned : Set) → IsPlain 2 (site_value atoms name owned)
 plain_site atoms name owned =

@@ -17,7 +17,7 @@ use Rattle.dcr_nest.specs.declared.node.Node.{Node}
 use Rattle.dcr_proj.specs.CoverValue.{Owners}
 use Rattle.dcr_set.specs.EventSet.{numbers}
 use Rattle.dcr_graph.specs.KindText.{kind_text}
-use Rattle.dcr_canon.specs.GraphText.{name_value, parent_member, node_value, relation_value, graph_value}
+use Rattle.dcr_canon.specs.GraphText.{name_value, parent_member, node_value, relation_value, relation_values, graph_value}
 use Rattle.dcr_canon.specs.CoverText.{site_value, cover_value}
 
 -- no number, and each key and each string is UTF-8
@@ -30,11 +30,11 @@ abbrev mutual
   IsUtf8Value (array ds) = AreUtf8Items ds
   IsUtf8Value (object ms) = AreUtf8Members ms
 
-  AreUtf8Items : Items → Type 0
+  pub AreUtf8Items : Items → Type 0
   AreUtf8Items no_items = ⊤
   AreUtf8Items (item d ds) = IsUtf8Value d × AreUtf8Items ds
 
-  AreUtf8Members : Members → Type 0
+  pub AreUtf8Members : Members → Type 0
   AreUtf8Members no_members = ⊤
   AreUtf8Members (member k d ms) = IsUtf8 k × IsUtf8Value d × AreUtf8Members ms
 
@@ -70,11 +70,11 @@ mapped_utf8 : {X : Type 0} (P : X → Type 0) (f : X → Data) → ((x : X) → 
 mapped_utf8 P f h [] all = tt
 mapped_utf8 P f h (x ∷ xs) all = (h x all.0, mapped_utf8 P f h xs all.1)
 
-all_utf8 : {X : Type 0} (f : X → Data) → ((x : X) → IsUtf8Value (f x)) → (xs : List X) → AreUtf8Items (items_of (map f xs))
+pub all_utf8 : {X : Type 0} (f : X → Data) → ((x : X) → IsUtf8Value (f x)) → (xs : List X) → AreUtf8Items (items_of (map f xs))
 all_utf8 f h [] = tt
 all_utf8 f h (x ∷ xs) = (h x, all_utf8 f h xs)
 
-name_utf8 : (names : List (List ℕ)) → AllByRecursion IsUtf8 names → (x : ℕ) → IsUtf8 (get_or names x [])
+pub name_utf8 : (names : List (List ℕ)) → AllByRecursion IsUtf8 names → (x : ℕ) → IsUtf8 (get_or names x [])
 name_utf8 [] all x = IsUtf8-nil
 name_utf8 (name ∷ names) all zero = all.0
 name_utf8 (name ∷ names) all (suc x) = name_utf8 names all.1 x
@@ -98,6 +98,10 @@ kind_utf8 Include = IsUtf8-are_ascii (codes "include") refl
 kind_utf8 Exclude = IsUtf8-are_ascii (codes "exclude") refl
 kind_utf8 Cancel = IsUtf8-are_ascii (codes "cancel") refl
 
+pub relations_utf8 : (names : List (List ℕ)) → AllByRecursion IsUtf8 names → (relations : List Pair) → AreUtf8Items (items_of (relation_values names relations))
+relations_utf8 names all relations =
+    all_utf8 (relation_value names) (λ (r : Pair). (kind_utf8 r.0, (name_utf8 names all r.1, (name_utf8 names all r.2, tt)))) relations
+
 pub graph_utf8 : (N : Nest) → All IsUtf8 (names_of N.nodes) → All IsUtf8 (labels_of N.nodes) → IsUtf8Value (graph_value N)
 unfolding graph_value
 graph_utf8 N named labelled =
@@ -106,8 +110,7 @@ graph_utf8 N named labelled =
     let nodes = mapped_utf8 AreTexts (node_value (names_of N.nodes))
     (λ node h. (IsUtf8-are_ascii (codes "label") refl, h.1, (IsUtf8-are_ascii (codes "name") refl, h.0, parent_utf8 (names_of N.nodes) names node.parent)))
     N.nodes (texts N.nodes names labels) in
-    let relations = all_utf8 (relation_value (names_of N.nodes))
-    (λ (r : Pair). (kind_utf8 r.0, (name_utf8 (names_of N.nodes) names r.1, (name_utf8 (names_of N.nodes) names r.2, tt)))) N.relations in
+    let relations = relations_utf8 (names_of N.nodes) names N.relations in
     (IsUtf8-are_ascii (codes "events") refl, nodes, (IsUtf8-are_ascii (codes "relations") refl, relations, tt))
 
 pub cover_utf8 : (atoms : List (List ℕ)) (cover : Owners) → All IsUtf8 atoms → All IsUtf8 cover.names → IsUtf8Value (cover_value atoms cover)

@@ -22,9 +22,10 @@ pub fn cover_text(alloc: Global, graph: &Graph, cover: &Cover) -> Result<Vec<u8>
     Ok(value.to_vec(alloc)?)
 }
 
-// The JSON value of a cover.
+/// The JSON value of a cover of a graph, of which `cover_text` is the text. `NoMemory` where memory could not
+/// be had.
 #[tactic(auto, unfolding(crate::specs::CoverText::cover_value))]
-fn cover_value(alloc: Global, graph: &Graph, cover: &Cover) -> Result<Value, NoMemory>
+pub fn cover_value(alloc: Global, graph: &Graph, cover: &Cover) -> Result<Value, NoMemory>
     requires { atoms_of cover.now.owned ≡ length graph.now.names }
     ensures { IfOk result (λ value. view value ≡ cover_value graph.now.names cover.now) }
 {

@@ -3,7 +3,8 @@ ghost use Rattle.serde_json.specs.View.{view};
 ghost use Rattle.dcr_size.specs.Laws.{json_in};
 ghost use Rattle.dcr_canon.specs.GraphText.{graph_value, graph_text};
 
-use crate::{events, relations};
+use crate::events;
+use crate::relations::relation_values;
 use dcr_nest::Nested;
 use dcr_set::NoMemory;
 use serde_json::{Map, Value};
@@ -26,7 +27,7 @@ fn graph_value(alloc: Global, nested: &Nested) -> Result<Value, NoMemory>
     ensures { IfOk result (λ value. view value ≡ graph_value nested.now) }
 {
     let events = events::values(alloc, nested.nodes())?;
-    let relations = relations::values(alloc, nested.nodes(), nested.relations())?;
+    let relations = relation_values(alloc, nested.nodes(), nested.relations())?;
     let mut members = Map::new(alloc);
     serde_json::put(&mut members, alloc, "events", Value::Array(events))?;
     serde_json::put(&mut members, alloc, "relations", Value::Array(relations))?;

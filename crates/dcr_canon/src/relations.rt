@@ -12,8 +12,9 @@ use dcr_set::NoMemory;
 use serde_json::Value;
 use std::alloc::Global;
 
-/// The JSON value of each relation, between nodes that are told by their numbers.
-pub(crate) fn values(
+/// The JSON value of each relation, between nodes that are told by their numbers. `NoMemory` where memory
+/// could not be had.
+pub fn relation_values(
     alloc: Global,
     nodes: &[Node],
     relations: &[(Kind, u16, u16)],

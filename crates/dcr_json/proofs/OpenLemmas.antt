@@ -1,5 +1,5 @@
 -- The opening marking of a case by the members of its events.
-use Rattle.std.proofs.Common.{◌≡◌, ◌≢◌, ℕ, zero, suc, Bool, true, false, codes, List, [], ◌∷◌, length, Option, Some, None, option_map, Ok, refl, sym, ap, ◌∙◌, subst}
+use Rattle.std.proofs.Common.{◌≡◌, ◌≢◌, ℕ, zero, suc, Bool, true, false, codes, List, [], ◌∷◌, length, Option, Some, None, option_map, refl, sym, ap, ◌∙◌, subst}
 use Rattle.std.specs.Prelude.{◌↔◌}
 use Rattle.std.specs.List.{slice_get}
 use Rattle.std.proofs.lemmas.Option.{same_Some}
@@ -8,14 +8,11 @@ use Rattle.serde_json.specs.Find.{get}
 use Rattle.dcr_graph.specs.declared.marking.Marking.{Marking}
 use Rattle.dcr_nest.specs.Nest.{Nest, parents_of}
 use Rattle.dcr_nest.specs.Tree.{atoms}
-use Rattle.dcr_shape.specs.Contents.{AreBeside, IsEventObject, Contains}
+use Rattle.dcr_shape.specs.Contents.{AreBeside, IsEventObject}
 use Rattle.dcr_shape.specs.Parts.{Event}
 use Rattle.dcr_shape.specs.Words.{graph_elements}
 use Rattle.dcr_nodes.specs.Contents.{IsNodeOf, IsOpening}
-use Rattle.dcr_json.specs.Case.{case_in}
-use Rattle.dcr_json.specs.Judged.{Spelled}
 use Rattle.dcr_json.specs.Opens.{OpensAs, OpensAsWritten, OpeningIsWritten}
-use Rattle.dcr_json.specs.Refusals.{SpellsJson, SpellsCase}
 use Rattle.dcr_json.proofs.RefusalLemmas.{cases_law}
 
 length-beside : {A B : Type 0} (R : A → B → Type 0) (xs : List A) (ys : List B) → AreBeside R xs ys → length xs ≡ length ys

@@ -4,3 +4,4 @@ pub mod Case
 pub mod Built
 pub mod Refusals
 pub mod Opens
+pub mod CaseText

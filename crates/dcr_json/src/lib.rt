@@ -1,13 +1,16 @@
-//! Case files: the case that the bytes of a file spell, or why they are refused.
+//! Case files: the case that the bytes of a file spell, or why they are refused; and the text of a case.
 #![tactic(auto)]
 
 mod calls;
 mod case;
 mod judge;
 mod laws;
+mod opened;
 mod read;
 mod session_list;
+mod session_texts;
 mod sites;
+mod text;
 
 pub use case::{Case, CaseStop};
 pub use dcr_canon::{cover_text, graph_text};
@@ -16,3 +19,4 @@ pub use dcr_shape::{LimitKind, Part};
 pub use laws::{no_bytes_want_memory, opening_is_written, when_each_refusal_comes};
 pub use read::read_case;
 pub use session_list::SessionList;
+pub use text::case_text;

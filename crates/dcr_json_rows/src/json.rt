@@ -104,7 +104,7 @@ pub(crate) fn assert_told(
 
 // ---- a file that has every member
 
-const WHOLE: &str =
+pub(crate) const WHOLE: &str =
     r#"{"note":[1.5,null,{"graph":1}],"version":"2","sessions":[["exec P a","look Q"],[],["enabled P","accepting","exec Q b"]],
     "cover":[{"site":"P","events":["n","x","a"]},{"at":[0],"events":["y","x"],"site":"Q"}],
     "graph":{"title":null,"relations":[["condition","n","x"],["response","b","m"],["milestone","a","a"],["include","x","y"],["exclude","y","x"],["cancel","m","b"],["condition","n","x"]],

@@ -19,3 +19,5 @@ mod replay;
 mod shape;
 #[cfg(test)]
 mod shown;
+#[cfg(test)]
+mod written;

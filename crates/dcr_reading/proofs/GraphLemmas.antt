@@ -51,14 +51,14 @@ use Rattle.dcr_reading.proofs.StageLemmas.{after_is, after_ok, read_first, at_in
 
 -- ---- what is written
 
-abbrev as_written : Version → WrittenVersion
+abbrev pub as_written : Version → WrittenVersion
 as_written V1 = written.V1
 as_written V2 = written.V2
 
 abbrev event_of : List (List ℕ) → Node → Event
 event_of names node = record { name = node.name; parent = option_map (λ p. get_or names p []) node.parent; label = Some node.label; executed = None; pending = None; included = None }
 
-abbrev relation_of : List (List ℕ) → Pair → Relation
+abbrev pub relation_of : List (List ℕ) → Pair → Relation
 relation_of names pair = record { kind = pair.0; source = get_or names pair.1 []; target = get_or names pair.2 [] }
 
 abbrev site_written : Site
@@ -67,10 +67,10 @@ site_written = record { name = codes "site"; owned = [] }
 abbrev events_of : Nest → List Event
 events_of N = map (event_of (names_of N.nodes)) N.nodes
 
-abbrev relations_of : Nest → List Relation
+abbrev pub relations_of : Nest → List Relation
 relations_of N = map (relation_of (names_of N.nodes)) N.relations
 
-abbrev file_of : Nest → Written
+abbrev pub file_of : Nest → Written
 file_of N = record { version = as_written N.version; events = events_of N; relations = relations_of N; sites = site_written ∷ []; sessions = [] }
 
 -- ---- the shape
@@ -128,7 +128,7 @@ cancel_free : (N : Nest) → IsNested N → (i : ℕ) (pair : Pair) → slice_ge
 cancel_free N nested i pair is one =
     ap (λ (p : Pair). same_kind p.0 Cancel) (sym (get_or_from_slice_get N.relations i pair pair is)) ∙ nested.cancels one i pair (slice_get_within N.relations i pair is)
 
-shape_is : (N : Nest) → IsNested N → shape_in (graph_file N.version (graph_value N)) ≡ Ok (file_of N)
+pub shape_is : (N : Nest) → IsNested N → shape_in (graph_file N.version (graph_value N)) ≡ Ok (file_of N)
 unfolding shape_in
 shape_is N nested =
     let names = names_of N.nodes in
@@ -236,7 +236,7 @@ limits_are N nested are labels = ((limits_law (file_of N)).given.1 (kept N neste
 
 -- ---- the whole
 
-version_back : (version : Version) → version_in (as_written version) ≡ version
+pub version_back : (version : Version) → version_in (as_written version) ≡ version
 version_back V1 = refl
 version_back V2 = refl
 

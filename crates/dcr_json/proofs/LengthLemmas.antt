@@ -1,24 +1,30 @@
--- The texts of names are as long as they are, and so a case file of an accepted graph and cover is short enough.
-use Rattle.std.proofs.Common.{◌≡◌, ◌≢◌, ℕ, suc, ◌+◌, ◌≤◌, ◌⊎◌, inl, inr, Bool, true, false, ◌&&◌, ◌||◌, ◌==◌, nat_le, codes, List, [], ◌∷◌, length, get_or, map, refl, sym, ap, ◌∙◌, arith}
+-- The texts of names are as long as they are, and so the texts of covers, events and calls in a case file are short.
+use Rattle.std.proofs.Common.{◌≡◌, ◌≢◌, ℕ, suc, ◌+◌, ◌*◌, ◌≤◌, ◌⊎◌, inl, inr, Bool, true, false, ◌&&◌, ◌||◌, ◌==◌, nat_le, codes, List, [], ◌∷◌, ◌++◌, length, get_or, map, refl, sym, ap, ◌∙◌, arith, sum_by}
 use Rattle.std.specs.List.{list_all, range_with_len}
 use Rattle.std.proofs.lemmas.Bool.{and_parts, cases_lt, eqb-true, false≢true, leb-true}
 use Rattle.std.proofs.lemmas.List.{get_or_past, length-append}
 use Rattle.std.proofs.lemmas.List.FromFn.{length-range_with_len}
+use Rattle.std.proofs.lemmas.List.Sums.{sum_by-cons}
 use Rattle.json.specs.Print.{escape_byte, escape, quoted}
 use Rattle.json.proofs.Printed.Strings.{escape_byte_plain}
-use Rattle.serde_json.specs.Data.{array, string, no_members, member}
+use Rattle.serde_json.specs.Data.{array, string, no_items, no_members, member}
 use Rattle.serde_json.specs.View.{items_of}
-use Rattle.serde_json.specs.Written.{compact_text}
+use Rattle.serde_json.specs.Written.{compact_text, items_text}
 use Rattle.dcr_set.specs.EventSet.{Set, numbers}
 use Rattle.dcr_graph.specs.Names.{is_between, is_letter, is_name_byte, is_name}
 use Rattle.dcr_nest.specs.Nest.{Nest, IsNested}
 use Rattle.dcr_proj.specs.CoverValue.{Owners}
+use Rattle.dcr_shape.specs.Contents.{texts_array}
 use Rattle.dcr_canon.specs.GraphText.{name_value}
 use Rattle.dcr_canon.specs.CoverText.{site_value, cover_value}
+use Rattle.dcr_journal.specs.declared.call.Call.{Call}
+use Rattle.dcr_journal.specs.declared.call.Call.TheVariants.{Exec, Look, Enabled, Accepting}
+use Rattle.dcr_line.specs.Line.{call_text}
 use Rattle.dcr_reading.specs.Accepted.{AreAllNames, IsAcceptedCover, atom_names}
 use Rattle.dcr_reading.proofs.CoverNoneLemmas.{rooms_few}
-use Rattle.dcr_reading.proofs.LengthLemmas.{quoted_short, member_short, items_short, numbers_few}
+use Rattle.dcr_reading.proofs.LengthLemmas.{member_short, item_short, items_short, numbers_few}
 use Rattle.dcr_reading.proofs.TextLemmas.{names_short}
+use Rattle.dcr_json.specs.CaseText.{session_values}
 
 either : (a b : Bool) → (a || b) ≡ true → (a ≡ true) ⊎ (b ≡ true)
 either true b e = inl refl
@@ -78,12 +84,23 @@ escape_name (x ∷ text) e =
 quoted_length : (s : List ℕ) → length (quoted s) ≡ 2 + length (escape s)
 quoted_length s = let parts : length (quoted s) ≡ suc (length (escape s) + 1) = ap suc (length-append (escape s) (34 ∷ [])) in omega arith
 
+-- the escaped bytes of two texts, one behind the other
+escape_both : (xs ys : List ℕ) → length (escape (xs ++ ys)) ≡ length (escape xs) + length (escape ys)
+escape_both [] ys = let same : length (escape ([] ++ ys)) ≡ length (escape ys) = refl in let none : length (escape []) ≡ 0 = refl in omega arith
+escape_both (x ∷ xs) ys =
+    let whole : length (escape (x ∷ xs ++ ys)) ≡ length (escape_byte x) + length (escape (xs ++ ys)) = length-append (escape_byte x) (escape (xs ++ ys)) in
+    let parts : length (escape (x ∷ xs)) ≡ length (escape_byte x) + length (escape xs) = length-append (escape_byte x) (escape xs) in
+    let later = escape_both xs ys in omega arith
+
 -- the name with any number, which is empty where there is none
-name_text : (names : List (List ℕ)) → AreAllNames names → (x : ℕ) → length (quoted (get_or names x [])) ≤ 66
-name_text names are x = elim (cases_lt x (length names)) [
-  | inl within ↦ (let whole = quoted_length (get_or names x []) in let plain = escape_name (get_or names x []) (are x [] within) in let few = names_short names are x in omega arith)
-  | inr past ↦ (let none : length (get_or names x []) ≡ 0 = ap (λ (name : List ℕ). length name) (get_or_past names x [] past) in let short = quoted_short (get_or names x []) in omega arith)
+escape_any : (names : List (List ℕ)) → AreAllNames names → (x : ℕ) → length (escape (get_or names x [])) ≤ 64
+escape_any names are x = elim (cases_lt x (length names)) [
+  | inl within ↦ (let plain = escape_name (get_or names x []) (are x [] within) in let few = names_short names are x in omega arith)
+  | inr past ↦ (let none : length (escape (get_or names x [])) ≡ 0 = ap (λ (name : List ℕ). length (escape name)) (get_or_past names x [] past) in omega arith)
 ]
+
+name_text : (names : List (List ℕ)) → AreAllNames names → (x : ℕ) → length (quoted (get_or names x [])) ≤ 66
+name_text names are x = let whole = quoted_length (get_or names x []) in let few = escape_any names are x in omega arith
 
 site_text : (atoms : List (List ℕ)) → AreAllNames atoms → (sites : List (List ℕ)) → AreAllNames sites → (i : ℕ) (owned : Set) → length owned ≤ 1024
     → length (compact_text (site_value atoms (get_or sites i []) owned)) ≤ 70000
@@ -104,3 +121,67 @@ cover_short N C nested are ok =
     (λ k i is. site_text (atom_names N) are C.names ok.names i (get_or C.owned i []) (rooms_few N C nested ok i)) false in
     let many = length-range_with_len 0 (length C.names) in
     let few = ok.is_cover.most_sites in omega arith
+
+-- ---- calls
+
+behind_space : (word : List ℕ) → length (escape (32 ∷ word)) ≡ suc (length (escape word))
+unfolding escape_byte
+behind_space word = refl
+
+word_exec : (word : List ℕ) → length (escape (codes "exec" ++ word)) ≡ suc (suc (suc (suc (length (escape word)))))
+unfolding escape_byte
+word_exec word = refl
+
+word_look : (word : List ℕ) → length (escape (codes "look" ++ word)) ≡ suc (suc (suc (suc (length (escape word)))))
+unfolding escape_byte
+word_look word = refl
+
+word_enabled : (word : List ℕ) → length (escape (codes "enabled" ++ word)) ≡ suc (suc (suc (suc (suc (suc (suc (length (escape word))))))))
+unfolding escape_byte
+word_enabled word = refl
+
+word_accepting : length (escape (codes "accepting")) ≡ 9
+unfolding escape_byte
+word_accepting = refl
+
+escape_call : (sites names : List (List ℕ)) → AreAllNames sites → AreAllNames names → (call : Call) → length (escape (call_text sites names call)) ≤ 134
+escape_call sites names named are (Exec i e) =
+    let site = get_or sites i [] in
+    let name = get_or names e [] in
+    let word = word_exec (32 ∷ (site ++ 32 ∷ name)) in
+    let first = behind_space (site ++ 32 ∷ name) in
+    let both = escape_both site (32 ∷ name) in
+    let second = behind_space name in
+    let few = escape_any sites named i in let more = escape_any names are e in omega arith
+escape_call sites names named are (Look i) =
+    let site = get_or sites i [] in
+    let word = word_look (32 ∷ site) in
+    let first = behind_space site in
+    let few = escape_any sites named i in omega arith
+escape_call sites names named are (Enabled i) =
+    let site = get_or sites i [] in
+    let word = word_enabled (32 ∷ site) in
+    let first = behind_space site in
+    let few = escape_any sites named i in omega arith
+escape_call sites names named are Accepting = let word = word_accepting in omega arith
+
+module _ (sites names : List (List ℕ)) (named : AreAllNames sites) (are : AreAllNames names) where
+  abbrev text_of : Call → List ℕ
+  text_of call = call_text sites names call
+
+  -- a call with the comma before it
+  calls_short : (calls : List Call) (later : Bool) → length (items_text later (items_of (map string (map text_of calls)))) ≤ 1 + 137 * length calls
+  calls_short [] later = let none : length (items_text later no_items) ≡ 1 = refl in omega arith
+  calls_short (call ∷ calls) later =
+      let one = item_short later (string (text_of call)) (items_of (map string (map text_of calls))) in
+      let here = escape_call sites names named are call in
+      let whole = quoted_length (text_of call) in
+      let more = calls_short calls true in omega arith
+
+  pub sessions_short : (sessions : List (List Call)) (later : Bool) → length (items_text later (items_of (session_values sites names sessions))) ≤ 1 + 3 * length sessions + 137 * sum_by length sessions
+  sessions_short [] later = let none : length (items_text later no_items) ≡ 1 = refl in omega arith
+  sessions_short (calls ∷ sessions) later =
+      let one = item_short later (texts_array (map text_of calls)) (items_of (session_values sites names sessions)) in
+      let here = calls_short calls false in
+      let more = sessions_short sessions true in
+      let sum = sum_by-cons length calls sessions in omega arith
