@@ -1,13 +1,12 @@
 -- The number that a word spells.
-use Rattle.std.proofs.Common.{◌≡◌, ℕ, ◌<◌, ◌≤◌, ◌+◌, ◌^◌, arith, Bool, true, false, ◌&&◌, List, decimal, Option, Some, None, refl, sym, ap, subst, ◌∙◌}
-use Rattle.std.specs.Prelude.{ltb}
+use Rattle.std.proofs.Common.{◌≡◌, ℕ, ◌<◌, ◌≤◌, ◌+◌, ◌^◌, arith, Bool, true, false, ◌&&◌, nat_le, List, decimal, Option, Some, None, refl, sym, ap, subst, ◌∙◌}
 use Rattle.std.specs.Str.{bytes_eq}
-use Rattle.std.proofs.lemmas.Bool.{lt-ltb, ltb-true}
+use Rattle.std.proofs.lemmas.Bool.{le-leb, leb-true}
 use Rattle.std.proofs.lemmas.Slice.Eq.{bytes_eq-Decides}
 use Rattle.dcr_set.proofs.LeastLemmas.{least-from, least-none_from}
 use Rattle.dcr_app.specs.Command.{number_in}
 use Rattle.dcr_app.specs.declared.command.Command.{Command}
-use Rattle.dcr_app.specs.declared.command.Command.TheVariants.{Run, Serve, Replay}
+use Rattle.dcr_app.specs.declared.command.Command.TheVariants.{Run, Serve, Replay, Load}
 
 -- two numbers have not one decimal form
 abbrev pub OneNumber : Type 0
@@ -26,26 +25,26 @@ not_both false b never = refl
 same_bytes : (xs ys : List ℕ) → bytes_eq xs ys ≡ true → xs ≡ ys
 same_bytes xs ys is = (bytes_eq-Decides xs ys).0 is
 
-pub spelled : OneNumber → (most : ℕ) → most < 2 ^ 64 → (word : List ℕ) (n : ℕ) → word ≡ decimal n → 0 < n → n ≤ most → number_in most word ≡ Some n
+pub spelled : OneNumber → (first last : ℕ) → last < 2 ^ 64 → (word : List ℕ) (n : ℕ) → word ≡ decimal n → first ≤ n → n ≤ last → number_in first last word ≡ Some n
 unfolding number_in
-spelled one most fits word n is some within =
-    least-from (most + 1) (λ k. ltb 0 k && bytes_eq (decimal k) word) n (record {
+spelled one first last fits word n is some within =
+    least-from (last + 1) (λ k. nat_le first k && bytes_eq (decimal k) word) n (record {
       below = omega (arith, within);
-      passes = ap (λ b. b && bytes_eq (decimal n) word) (lt-ltb 0 n some) ∙ (bytes_eq-Decides (decimal n) word).1 (sym is);
-      none_before = λ j before. not_both (ltb 0 j) (bytes_eq (decimal j) word) (λ _ same.
+      passes = ap (λ b. b && bytes_eq (decimal n) word) (le-leb first n some) ∙ (bytes_eq-Decides (decimal n) word).1 (sym is);
+      none_before = λ j before. not_both (nat_le first j) (bytes_eq (decimal j) word) (λ _ same.
           let equal : j ≡ n = one j n (omega (arith, before, within, fits)) (omega (arith, within, fits)) (same_bytes (decimal j) word same ∙ is) in absurd (omega (arith, equal, before)));
     })
 
-pub unspelled : (most : ℕ) (word : List ℕ) → ((n : ℕ) → 0 < n → n ≤ most → word ≡ decimal n → ⊥) → number_in most word ≡ None
+pub unspelled : (first last : ℕ) (word : List ℕ) → ((n : ℕ) → first ≤ n → n ≤ last → word ≡ decimal n → ⊥) → number_in first last word ≡ None
 unfolding number_in
-unspelled most word never =
-    least-none_from (most + 1) (λ k. ltb 0 k && bytes_eq (decimal k) word)
-    (λ j below. not_both (ltb 0 j) (bytes_eq (decimal j) word) (λ some same. never j (ltb-true 0 j some) (omega (arith, below)) (sym (same_bytes (decimal j) word same))))
+unspelled first last word never =
+    least-none_from (last + 1) (λ k. nat_le first k && bytes_eq (decimal k) word)
+    (λ j below. not_both (nat_le first j) (bytes_eq (decimal j) word) (λ some same. never j (leb-true first j some) (omega (arith, below)) (sym (same_bytes (decimal j) word same))))
 
 -- a number that is none of these
-pub other_number : OneNumber → (most : ℕ) → most < 2 ^ 64 → (word : List ℕ) (n : ℕ) → n < 2 ^ 64 → word ≡ decimal n → (0 < n → n ≤ most → ⊥) → number_in most word ≡ None
-other_number one most fits word n small is none =
-    unspelled most word (λ k some within same. let equal : k ≡ n = one k n (omega (arith, within, fits)) small (sym same ∙ is) in none (subst (λ m. 0 < m) equal some) (subst (λ m. m ≤ most) equal within))
+pub other_number : OneNumber → (first last : ℕ) → last < 2 ^ 64 → (word : List ℕ) (n : ℕ) → n < 2 ^ 64 → word ≡ decimal n → (first ≤ n → n ≤ last → ⊥) → number_in first last word ≡ None
+other_number one first last fits word n small is none =
+    unspelled first last word (λ k some within same. let equal : k ≡ n = one k n (omega (arith, within, fits)) small (sym same ∙ is) in none (subst (λ m. first ≤ m) equal some) (subst (λ m. m ≤ last) equal within))
 
 -- ---- the command that words spell
 
@@ -55,6 +54,7 @@ numbers_by None = (0, 0, false)
 numbers_by (Some (Run workers store)) = (0, workers, store)
 numbers_by (Some (Serve sessions workers store)) = (sessions, workers, store)
 numbers_by (Some Replay) = (0, 0, false)
+numbers_by (Some (Load number)) = (0, 0, false)
 
 -- words spell one run
 pub one_run : (command : Option Command) (w workers : ℕ) (s store : Bool) → command ≡ Some (Run w s) → command ≡ Some (Run workers store) → (w ≡ workers) × (s ≡ store)

@@ -5,5 +5,6 @@ mod TapeLemmas
 mod RunLemmas
 mod LinksLemmas
 mod OverLemmas
+mod LoadLemmas
 mod FaultlessLemmas
 mod ReplayLemmas

@@ -71,7 +71,7 @@ failed_for cause.Long status had took ends is = absurd (never_failed cause.Long 
 
 -- ---- without a tape
 
-off_stands : {D : Type 0} (view : D → DiskView) (faults : D → ℕ) (before : D) (J : List Entry) (last : Store D)
+pub off_stands : {D : Type 0} (view : D → DiskView) (faults : D → ℕ) (before : D) (J : List Entry) (last : Store D)
     → StoreStands view faults (Some (Off before)) [] J last → (disk_in last ≡ before) × HasNoFault J
 off_stands view faults before J (Off disk) stands = stands
 off_stands view faults before J (On tape) stands = elim stands [ ]

@@ -29,13 +29,14 @@ use Rattle.dcr_replay.specs.declared.verdict.Verdict.{Verdict}
 use Rattle.dcr_replay.specs.declared.verdict.Verdict.TheVariants as verdict
 use Rattle.dcr_replay.specs.declared.verdict.Wrong.{Wrong}
 use Rattle.dcr_app.specs.Headline.{Headline, cluster_in, digest_of, rules_in}
+use Rattle.dcr_app.specs.Loaded.{AnswersLoad}
 use Rattle.dcr_app.specs.Outside.{WereLeft, Wrote, IsSilent}
 use Rattle.dcr_app.specs.Refusal.{refusal_line}
 use Rattle.dcr_app.specs.Stored.{Keeps, RefusesTape, tape_line}
 use Rattle.dcr_app.specs.Telling.{Doors, Telling, by_workers, over_links}
 use Rattle.dcr_app.specs.declared.app.End.{End}
 use Rattle.dcr_app.specs.declared.command.Command.{Command}
-use Rattle.dcr_app.specs.declared.command.Command.TheVariants.{Run, Serve, Replay}
+use Rattle.dcr_app.specs.declared.command.Command.TheVariants.{Run, Serve, Replay, Load}
 
 -- ---- `run` and `serve`
 
@@ -200,8 +201,14 @@ abbrev pub IsServing : Option Command → Type 0
 IsServing (Some (Serve sessions workers store)) = Unit {0}
 IsServing command = ⊥
 
+-- whether the command reads its input, to the end
+abbrev pub IsReading : Option Command → Type 0
+IsReading None = ⊥
+IsReading (Some (Load number)) = ⊥
+IsReading (Some command) = Unit {0}
+
 -- What the program answers: words that are no command by the line `usage`; a case file by its run, that of its own sessions or
--- of those over links, or its refusal; a report by its verdict. `doors` is what the door and its links tell, `before` is the
+-- of those over links, or its refusal; a report by its verdict; a number by the run of its case. `doors` is what the door and its links tell, `before` is the
 -- disk at entry and `door` the door. `left` is what the input had left at entry, where it tells that, and `has_ended` that it
 -- has come to its end; `had` is what the output had taken at entry, and `took` what it has taken now, where it tells that.
 abbrev pub Answers : {D B L R : Type 0} → (D → DiskView) → (D → ℕ) → Doors B L R → Option Command → B → D → Option (List ℕ) → Type 0 → Option (List ℕ) → Option (List ℕ) → End B D L R → Type 0
@@ -211,6 +218,7 @@ Answers view faults doors (Some (Run workers store)) door before left has_ended 
 Answers view faults doors (Some (Serve sessions workers store)) door before left has_ended had took end =
     AnswersCase view faults (over_links doors door end.door sessions end.ends.items) store before end.disk left has_ended had took end.status end.closed
 Answers view faults doors (Some Replay) door before left has_ended had took end = (end.closed ≡ None) × AnswersReport left had took end.status
+Answers view faults doors (Some (Load number)) door before left has_ended had took end = AnswersLoad number had took end.status end.closed
 
 -- the line that was written says why the bytes that were read are no case
 abbrev pub RefusesCase : Option (List ℕ) → Option (List ℕ) → Option (List ℕ) → Type 0
@@ -218,9 +226,10 @@ RefusesCase left had took = (bytes : List ℕ) × WereLeft left bytes
     × ((why : CaseStop) × (case_in bytes ≡ Err why) × (why ≢ stop.NoMemory) × Appends had took (refusal_line why))
 
 -- The line that was written says why the input is refused: the first refusal of a case that holds, or that a report has
--- too many bytes. Words that are no command refuse nothing.
+-- too many bytes. Words that are no command, and a number, refuse nothing.
 abbrev pub Refuses : Option Command → Option (List ℕ) → Option (List ℕ) → Option (List ℕ) → Type 0
 Refuses None left had took = ⊥
+Refuses (Some (Load number)) left had took = ⊥
 Refuses (Some (Run workers store)) left had took = RefusesCase left had took
 Refuses (Some (Serve sessions workers store)) left had took = RefusesCase left had took
 Refuses (Some Replay) left had took =

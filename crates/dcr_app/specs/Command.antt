@@ -1,22 +1,26 @@
 -- The command that the words of the command line spell.
-use Rattle.std.specs.Prelude.{ℕ, ◌<◌, ◌≤◌, ◌+◌, ltb, ◌&&◌, Bool, true, false, List, [], ◌∷◌, map, codes, decimal, String, string_bytes, Option, Some, None, if◌then◌else◌}
+use Rattle.std.specs.Prelude.{ℕ, ◌<◌, ◌≤◌, ◌+◌, nat_le, ◌&&◌, Bool, true, false, List, [], ◌∷◌, map, codes, decimal, String, string_bytes, Option, Some, None, if◌then◌else◌}
 use Rattle.std.specs.Str.{bytes_eq}
 use Rattle.std.specs.declared.alloc.Global.{Global}
 use Rattle.dcr_set.specs.Least.{least}
 use Rattle.dcr_app.specs.declared.command.Command.{Command}
-use Rattle.dcr_app.specs.declared.command.Command.TheVariants.{Run, Serve, Replay}
+use Rattle.dcr_app.specs.declared.command.Command.TheVariants.{Run, Serve, Replay, Load}
 use Rattle.dcr_app.specs.declared.way.Way.{Way}
 use Rattle.dcr_app.specs.declared.way.Way.TheVariants as way
 
--- the number from 1 to this one that a word spells in decimal
-unfoldable pub number_in : ℕ → List ℕ → Option ℕ
-number_in most word = least (most + 1) (λ n. ltb 0 n && bytes_eq (decimal n) word)
+-- the number from the first to the second that a word spells in decimal
+unfoldable pub number_in : ℕ → ℕ → List ℕ → Option ℕ
+number_in first last word = least (last + 1) (λ n. nat_le first n && bytes_eq (decimal n) word)
 
 abbrev pub workers_in : List ℕ → Option ℕ
-workers_in word = number_in 64 word
+workers_in word = number_in 1 64 word
 
 abbrev pub sessions_in : List ℕ → Option ℕ
-sessions_in word = number_in 1024 word
+sessions_in word = number_in 1 1024 word
+
+-- the number of a case that is made
+abbrev pub load_in : List ℕ → Option ℕ
+load_in word = number_in 0 4294967295 word
 
 -- a run by so many workers, where a number of them is spelled
 abbrev pub run_by : Bool → Option ℕ → Option Command
@@ -54,13 +58,24 @@ abbrev pub replay_with : List (List ℕ) → Option Command
 replay_with [] = Some Replay
 replay_with words = None
 
+-- a load of the case of a number, where one is spelled
+abbrev pub load_by : Option ℕ → Option Command
+load_by None = None
+load_by (Some number) = Some (Load number)
+
+-- the number stands behind `load`, and nothing else
+abbrev pub load_with : List (List ℕ) → Option Command
+load_with (number ∷ []) = load_by (load_in number)
+load_with words = None
+
 -- the command that these texts spell
 abbrev pub command_spelled : List (List ℕ) → Option Command
 command_spelled [] = None
 command_spelled (word ∷ rest) =
     if bytes_eq word (codes "run") then run_with rest
     else (if bytes_eq word (codes "serve") then serve_with rest
-    else (if bytes_eq word (codes "replay") then replay_with rest else None))
+    else (if bytes_eq word (codes "replay") then replay_with rest
+    else (if bytes_eq word (codes "load") then load_with rest else None)))
 
 abbrev pub command_in : List (String Global) → Option Command
 command_in words = command_spelled (map string_bytes words)
@@ -76,6 +91,7 @@ abbrev pub HasNumbers : Command → Type 0
 HasNumbers (Run workers store) = AreWorkers workers
 HasNumbers (Serve sessions workers store) = AreSessions sessions × AreWorkers workers
 HasNumbers Replay = Unit {0}
+HasNumbers (Load number) = Unit {0}
 
 abbrev pub IsWay : Way → Type 0
 IsWay (way.Run workers) = AreWorkers workers

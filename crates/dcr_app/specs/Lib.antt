@@ -1,6 +1,7 @@
 pub mod Answers
 pub mod Command
 pub mod Headline
+pub mod Loaded
 pub mod Outside
 pub mod Stored
 pub mod Telling

@@ -2,14 +2,15 @@ ghost use Rattle.std.specs.Prelude.{◌≡◌, ◌≢◌, ◌⊎◌, ◌≤◌, 
 ghost use Rattle.std.specs.Io.KnownBytes.{IsAtEnd};
 ghost use Rattle.dcr_base.specs.Count.{Rose};
 ghost use Rattle.dcr_json.specs.Case.{case_in};
-ghost use Rattle.dcr_app.specs.Answers.{Answers, EndsRun, EndsServing, IsAnsweredCase, IsAnsweredReport, IsDoneThroughout, IsServing, IsStored, IsTapeRefused, IsToldByOne, Refuses, SaysInvalid, SaysValid, WroteReport};
+ghost use Rattle.dcr_app.specs.Answers.{Answers, EndsRun, EndsServing, IsAnsweredCase, IsAnsweredReport, IsDoneThroughout, IsOr, IsReading, IsServing, IsStored, IsTapeRefused, IsToldByOne, Refuses, SaysInvalid, SaysValid, WroteReport};
 ghost use Rattle.dcr_app.specs.Command.{command_in};
 ghost use Rattle.dcr_app.specs.Outside.{TookAtMost, most_read};
 ghost use Rattle.dcr_app.specs.Stored.{StandsStill};
 ghost use Rattle.dcr_app.specs.Telling.{IsUnasked, LeavesDoor, doors_of};
-ghost use Rattle.dcr_app.specs.declared.command.Command.TheVariants.{Run, Serve, Replay};
+ghost use Rattle.dcr_app.specs.declared.command.Command.TheVariants.{Run, Serve, Replay, Load};
 
 use crate::command::{Command, command_of};
+use crate::load::load;
 use crate::replay::replay;
 use crate::run::run;
 use crate::say::say;
@@ -30,8 +31,8 @@ use std::thread::Threads;
 pub struct End<B: Door, D> {
     /// How the program ended.
     pub status: Status,
-    /// The run of the case, where `run` or `serve` read one and executed it: with `Done`, `DiskFault`, `Full` and
-    /// `DoorFault`, and with `WriteFault` where its report was to be written. With `NoMemory` it may be there. With
+    /// The run of the case, where `run` or `serve` read one, or `load` made one, and it was executed: with `Done`,
+    /// `DiskFault`, `Full` and `DoorFault`, and with `WriteFault` where its report or line was to be written. With `NoMemory` it may be there. With
     /// `DiskFault` it is missing where the disk failed before the first call.
     pub closed: Option<Closed>,
     /// The door that was handed in.
@@ -50,11 +51,12 @@ pub struct End<B: Door, D> {
 /// the report. With `--store` both go on from the executions that the disk stands for, which is made a tape of the case where
 /// it is empty, and each execution is on the disk before it is answered. `replay` reads a report to its end, checks it by the
 /// plain engine of the whole graph, and writes one line: that it is the report of a legal history, or which line is the first
-/// wrong one. Other words are answered by the line `usage`. A file that is no case, and a report of more than 268,435,456
+/// wrong one. `load` reads nothing: it makes the case of its number, runs it by one worker, and writes one line about that run.
+/// Other words are answered by the line `usage`. A file that is no case, and a report of more than 268,435,456
 /// bytes, is refused by one line that tells why, and so is a disk that isn't empty and isn't a tape of the case that can be
 /// gone on from.
 ///
-/// `Done` comes where the report or `valid` was written, `Invalid` where `invalid` was, `Usage`, `Refused` and
+/// `Done` comes where the report, `valid` or the line of `load` was written, `Invalid` where `invalid` was, `Usage`, `Refused` and
 /// `TapeRefused` where their lines were. `ReadFault` comes exactly where a read failed, and then nothing was written.
 /// `DiskFault` comes where a call of the disk failed: with a run, which the failed execution ends and whose report was
 /// written; or before its first call, with nothing written. `Full` comes only in `serve`, exactly where the history has
@@ -96,8 +98,8 @@ pub fn dcr<
     ensures door_counted { result.status ≡ Status.DoorFault → Rose (B.faults door) (B.faults result.door) }
     ensures doors_never_fall { B.faults door ≤ B.faults result.door }
     ensures asked { TookAtMost (most_read (command_in words.now)) (I.left input.old) (I.left input.new) }
-    ensures ended { result.status ≡ Status.Done → I.has_ended input.new }
-    ensures none_left { result.status ≡ Status.Done → IsAtEnd (I.left input.new) }
+    ensures ended { IsReading (command_in words.now) → result.status ≡ Status.Done → I.has_ended input.new }
+    ensures none_left { IsReading (command_in words.now) → result.status ≡ Status.Done → IsAtEnd (I.left input.new) }
 
     ensures unstored { ¬ IsStored (command_in words.now) → result.disk ≡ disk }
     ensures still { result.closed ≡ None → StandsStill D.view disk result.disk }
@@ -107,13 +109,14 @@ pub fn dcr<
 
     ensures usage { command_in words.now ≡ None → (result.status ≡ Status.Usage) ⊎ (result.status ≡ Status.WriteFault) }
     ensures usage_only { result.status ≡ Status.Usage → command_in words.now ≡ None }
-    ensures unread { command_in words.now ≡ None → I.left input.new ≡ I.left input.old }
+    ensures unread { ¬ IsReading (command_in words.now) → I.left input.new ≡ I.left input.old }
     ensures refused { result.status ≡ Status.Refused
         → Refuses (command_in words.now) (I.left input.old) (O.taken output.old) (O.taken output.new) }
     ensures tape_refused { result.status ≡ Status.TapeRefused → IsStored (command_in words.now)
         × IsTapeRefused (D.view disk) (D.view result.disk) (I.left input.old) (O.taken output.old) (O.taken output.new) Status.TapeRefused }
 
-    ensures report { result.status ≡ Status.Done → WroteReport (O.taken output.old) (O.taken output.new) result.closed }
+    ensures report { IsReading (command_in words.now) → result.status ≡ Status.Done
+        → WroteReport (O.taken output.old) (O.taken output.new) result.closed }
     ensures converse { (workers : ℕ) (store : Bool) → command_in words.now ≡ Some (Run workers store)
         → IsToldByOne workers (I.left input.old) result.closed × IsDoneThroughout (I.left input.old) result.closed }
     ensures done { (workers : ℕ) (store : Bool) → command_in words.now ≡ Some (Run workers store)
@@ -145,6 +148,9 @@ pub fn dcr<
         → (Rose (I.read_faults input.old) (I.read_faults input.new) → ⊥)
         → (Rose (O.write_faults output.old) (O.write_faults output.new) → ⊥)
         → IfSome (I.left input.old) (λ bytes. IsAnsweredReport bytes result.status) }
+
+    ensures loaded { (number : ℕ) → command_in words.now ≡ Some (Load number)
+        → (Rose (O.write_faults output.old) (O.write_faults output.new) → ⊥) → IsOr Status.Done result.status }
 {
     match command_of(words) {
         None => say(output, b"usage\n", Status::Usage).over(door, disk, Vec::new(alloc)),
@@ -178,6 +184,10 @@ pub fn dcr<
             a_text_has_one_verdict();
             the_first_wrong_line_is_told();
             replay(alloc, input, output).over(door, disk, Vec::new(alloc))
+        }
+        Some(Command::Load { number }) => {
+            let (answer, disk) = load(rt, alloc, number, output, disk, gate);
+            answer.over(door, disk, Vec::new(alloc))
         }
     }
 }

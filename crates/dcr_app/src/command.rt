@@ -1,5 +1,5 @@
 ghost use Rattle.std.specs.Prelude.{◌≡◌, ◌<◌, ◌≤◌, map, string_bytes, IfSome};
-ghost use Rattle.dcr_app.specs.Command.{HasNumbers, before_numbers, command_in, number_in, run_by, run_with, serve_by, serve_with};
+ghost use Rattle.dcr_app.specs.Command.{HasNumbers, before_numbers, command_in, load_with, number_in, run_by, run_with, serve_by, serve_with};
 
 use dcr_text::{decimal_is_one_number, read_decimal};
 
@@ -20,6 +20,10 @@ pub enum Command {
     },
     /// Check a report.
     Replay,
+    /// Run the case that the number spells, by one worker.
+    Load {
+        number: u32,
+    },
 }
 
 // The most workers, and the most sessions that are served.
@@ -43,6 +47,9 @@ pub(crate) fn command_of(words: &[String]) -> Option<Command>
     }
     if word.as_str() == "replay" && rest.is_empty() {
         return Some(Command::Replay);
+    }
+    if word.as_str() == "load" {
+        return load_of(rest);
     }
     None
 }
@@ -70,13 +77,13 @@ fn run_of(words: &[String]) -> Option<Command>
             if word.as_str() != "--workers" {
                 return None;
             }
-            run_by(number_of(number.as_str(), MAX_WORKERS), false)
+            run_by(number_of(number.as_str(), 1, MAX_WORKERS), false)
         }
         [word, number, last] => {
             if word.as_str() != "--workers" || last.as_str() != "--store" {
                 return None;
             }
-            run_by(number_of(number.as_str(), MAX_WORKERS), true)
+            run_by(number_of(number.as_str(), 1, MAX_WORKERS), true)
         }
         _ => None,
     }
@@ -123,13 +130,13 @@ fn are_before_numbers(first: &str, second: &str) -> bool
 
 // The serving whose numbers these words spell.
 fn serve_by(sessions: &str, workers: &str, store: bool) -> Option<Command>
-    ensures spelled { result ≡ serve_by store (number_in 1024 sessions.now) (number_in 64 workers.now) }
+    ensures spelled { result ≡ serve_by store (number_in 1 1024 sessions.now) (number_in 1 64 workers.now) }
     ensures numbers { IfSome result HasNumbers }
 {
-    let Some(sessions) = number_of(sessions, MAX_SESSIONS) else {
+    let Some(sessions) = number_of(sessions, 1, MAX_SESSIONS) else {
         return None;
     };
-    let Some(workers) = number_of(workers, MAX_WORKERS) else {
+    let Some(workers) = number_of(workers, 1, MAX_WORKERS) else {
         return None;
     };
     Some(Command::Serve {
@@ -139,15 +146,29 @@ fn serve_by(sessions: &str, workers: &str, store: bool) -> Option<Command>
     })
 }
 
-// The number from 1 to this one that a word spells in decimal without leading zeros.
-fn number_of(word: &str, most: u32) -> Option<u32>
-    ensures spelled { result ≡ number_in most word.now }
-    ensures within { IfSome result (λ n. (0 < n) × (n ≤ most)) }
+// The load that the words behind `load` ask for.
+fn load_of(words: &[String]) -> Option<Command>
+    ensures spelled { result ≡ load_with (map string_bytes words.now) }
+    ensures numbers { IfSome result HasNumbers }
+{
+    let [number] = words else {
+        return None;
+    };
+    let Some(number) = number_of(number.as_str(), 0, u32::MAX) else {
+        return None;
+    };
+    Some(Command::Load { number })
+}
+
+// The number from the one to the other that a word spells in decimal without leading zeros.
+fn number_of(word: &str, least: u32, most: u32) -> Option<u32>
+    ensures spelled { result ≡ number_in least most word.now }
+    ensures within { IfSome result (λ n. (least ≤ n) × (n ≤ most)) }
 {
     // Two numbers have not one decimal form.
     decimal_is_one_number();
     match read_decimal(word.as_bytes()) {
-        Some(n) if 1 <= n && n <= most as u64 => Some(n as u32),
+        Some(n) if n >= least as u64 && n <= most as u64 => Some(n as u32),
         _ => None,
     }
 }

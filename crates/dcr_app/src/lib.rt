@@ -6,6 +6,7 @@ mod answer;
 mod app;
 mod command;
 mod lines;
+mod load;
 mod refusal;
 mod replay;
 mod run;

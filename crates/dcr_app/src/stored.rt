@@ -222,7 +222,7 @@ fn over_links<
 }
 
 // The disk of a store.
-fn disk_of<D: Disk>(store: Store<D>) -> D
+pub(crate) fn disk_of<D: Disk>(store: Store<D>) -> D
     ensures { result ≡ disk_in store }
 {
     match store {

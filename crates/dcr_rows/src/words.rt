@@ -24,7 +24,14 @@ fn other_words_are_answered_by_usage(rt: HostRuntime) -> Result<(), Fail> {
         &["run", "--store", "--store"],
         &["run", "--workers", "2", "--workers"],
         &["run", "--workers", "2", "--store", ""],
+        &["load"],
         &["load", "-1"],
+        &["load", "07"],
+        &["load", ""],
+        &["load", "4294967296"],
+        &["load", "7", "7"],
+        &["load", "7", "--store"],
+        &["load", "--workers", "2"],
         &["serve"],
     ] {
         let (status, written) = answer(&rt, rt.alloc(), words, hospital().file.as_bytes())?;

@@ -1,0 +1,9 @@
+pub mod EachLemmas
+pub mod WordLemmas
+pub mod SetLemmas
+pub mod NameLemmas
+pub mod TopLemmas
+pub mod DrawnLemmas
+pub mod LoadLemmas
+pub mod SessionLemmas
+pub mod CaseLemmas
