@@ -8,6 +8,7 @@ import pty
 import re
 import select
 import subprocess
+import sys
 import tempfile
 import time
 
@@ -65,7 +66,7 @@ def check_words_that_are_no_command_are_usage():
     lines += [["replay", "replay"], [b"\xff"], [b"run\xff"], [b"\xffrun"], ["run", b"\xff"], [b"\xff", "run"], ["replay", b"\xc3"]]
     lines += [["run", "--workers", it] for it in ("0", "02", "65", "-1", "+2", "2 ", "", "4294967297", "two", "--store")]
     lines += [["run", "--workers"], ["run", "--workers=2"], ["run", "--store", "--workers", "2"], ["run", "--store", "--store"], ["run", "--workers", "2", "--workers", "2"]]
-    lines += [["run", "--workers", "2", "store"], ["run", "--workers", "2", "--store", "x"], ["--store", "run"], ["replay", "--store"], ["load", "-1"], ["serve"]]
+    lines += [["run", "--workers", "2", "store"], ["run", "--workers", "2", "--store", "x"], ["--store", "run"], ["replay", "--store"], ["load"], ["load", "-1"], ["load", "07"], ["load", "4294967296"], ["load", "7", "7"], ["serve"]]
     for words in lines:
         told = dcr(*words, given=read("examples/first.json"))
         want(told == (USAGE, b"usage\n", b""), "%s gives %s" % (words, told))
@@ -75,6 +76,33 @@ def check_nothing_is_read_for_wrong_words():
     with open(os.path.join(EXAMPLES, "first.json"), "rb") as file:
         for words in [[], ["run", "x"]]:
             want(dcr(*words, stdin=file)[0] == USAGE and os.lseek(file.fileno(), 0, os.SEEK_CUR) == 0, "%s: the input was read" % words)
+
+
+def check_a_number_is_answered_by_the_line_of_its_case():
+    sys.path.insert(0, os.path.join(TOP, "bench"))
+    import load
+
+    numbers = ("7", "8", "4294967295")
+    lines = []
+    with open(os.path.join(EXAMPLES, "first.json"), "rb") as file:
+        for number in numbers:
+            lines.append(load.line_of(int(number)).encode())
+            told = dcr("load", number, stdin=file)
+            want(told == (DONE, lines[-1], b""), "load %s gives %s" % (number, told))
+        want(os.lseek(file.fileno(), 0, os.SEEK_CUR) == 0, "the input was read")
+    want(len({line.split(b" ", 2)[2] for line in lines}) == len(numbers), "two numbers give one line")
+
+
+def check_the_case_of_a_number_runs_as_its_line_says():
+    sys.path.insert(0, os.path.join(TOP, "bench"))
+    import load
+
+    report = dcr("run", given=json.dumps(load.case_of(7)).encode())
+    entries = [line for line in report[1].split(b"\n") if line[:1].isdigit()]
+    done = sum(line.endswith(b" done") for line in entries)
+    verdict = report[1].split(b"\nverdict ")[1].split(b"\n")[0].decode()
+    line = "load 7 entries %d done %d other %d verdict %s\n" % (len(entries), done, len(entries) - done, verdict)
+    want(dcr("load", "7") == (DONE, line.encode(), b""), "`run` and `load` tell two runs")
 
 
 def check_each_refusal_has_its_line():
@@ -347,6 +375,12 @@ def check_a_closed_output_is_a_write_fault():
     for words, given in [(["run"], read("examples/first.json")), (["replay"], read("examples/first.report")), ([], b"")]:
         told = in_shell('exec "$@" >&-', *words, given=given)
         want(told[0] == WRITE_FAULT, "%s gives status %d" % (words, told[0]))
+
+
+def check_a_closed_output_leaves_the_tape_alone():
+    with tempfile.TemporaryDirectory() as folder:
+        told = in_shell('exec "$@" >&-', "run", "--store", given=read("examples/medication.json"), cwd=folder)
+        want(told[0] == WRITE_FAULT and tape_of(folder) == medication_tape(), "status %d, and the tape is %s" % (told[0], tape_of(folder).hex(" ")))
 
 
 def check_a_reader_that_goes_away_is_a_write_fault():

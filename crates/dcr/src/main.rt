@@ -14,6 +14,7 @@ use dcr_app::{Status, dcr};
 use dcr_base::{Disk, Door, FileDisk, Gate, Link, OpenGate, Sink, Source, StdSink, StdSource};
 use dcr_serve::TcpDoor;
 use std::alloc::Global;
+use std::fs::File;
 use std::io::ErrorKind;
 use std::process::ExitCode;
 use std::sync::Wait;
@@ -23,7 +24,15 @@ use std::{env, io};
 // The port of 127.0.0.1 at which sessions are served.
 const PORT: u16 = 7411;
 
+// A folder, from which nothing can be read and to which nothing can be written.
+const NOWHERE: &str = "/";
+
 fn main(rt: HostRuntime) -> ExitCode {
+    // Where the process was started with one of its three streams closed, the folder gets its number: else the tape or a
+    // connection would get it, and the report would be written there.
+    let _first = File::open(&rt, NOWHERE);
+    let _second = File::open(&rt, NOWHERE);
+    let _third = File::open(&rt, NOWHERE);
     let mut input = StdSource::new(rt.reader());
     let mut output = StdSink::new(io::writer(&rt));
     let Ok(files) = rt.clone() else {

@@ -128,6 +128,25 @@ end 1
 }
 
 #[test]
+fn a_link_of_more_than_200_000_lines_ends_its_session(rt: HostRuntime) -> Result<(), Fail> {
+    let alloc = rt.alloc();
+    let mut asked = "x\n".repeat(alloc, 200_000)?;
+    asked.push_str("x")?;
+    let mut replies = "bad-line\n".repeat(alloc, 200_000)?;
+    replies.push_str("many-lines\n")?;
+    let row = Row {
+        words: ONE,
+        links: &[whole(asked.as_bytes())],
+        failing: &[],
+        status: Status::Done,
+        rest: UNTOUCHED,
+        ends: &[(replies.as_str(), 0, WorkCause::ManyLines)],
+        left: 0,
+    };
+    expect(&rt, alloc, &row)
+}
+
+#[test]
 fn a_link_that_takes_no_more_ends_its_session_alone(rt: HostRuntime) -> Result<(), Fail> {
     let row = Row {
         words: ONE,

@@ -1,7 +1,11 @@
 // Reports that are replayed, and texts that are almost reports.
 use crate::whole::{ROWS, answer, hospital};
 use dcr_app::Status;
+use std::alloc::Global;
+use std::process::Abort;
+use std::sync::Wait;
 use std::test::Fail;
+use std::thread::Threads;
 
 // In the report of the hospital the first text is replaced by the second, and this is what is told.
 type Row = (&'static str, &'static str, &'static str);
@@ -78,7 +82,7 @@ const ENTRIES: [Row; 18] = [
     ("gm excluded", "gm done", "10 outcome"),
 ];
 
-const ENDS: [Row; 16] = [
+const ENDS: [Row; 17] = [
     ("executed pm,s", "executed s,pm", "14 site"),
     ("site doctor", "site nurse", "14 site"),
     (
@@ -107,6 +111,7 @@ const ENDS: [Row; 16] = [
     ("end 9\n", "end 9\n\n", "18 extra"),
     ("end 9\n", "end 9\nend 9\n", "18 extra"),
     ("end 9\n", "end 9\nx", "18 extra"),
+    ("end 9\n", "end 9\nx\n", "18 extra"),
 ];
 
 #[test]
@@ -165,5 +170,50 @@ fn a_graph_is_of_its_version(rt: HostRuntime) -> Result<(), Fail> {
         }
     }
     assert!(rt; tried);
+    Ok(())
+}
+
+// What stands in each line of the report of the hospital.
+const KINDS: [&str; 17] = [
+    "head", "graph", "cover", "open", "entry", "entry", "entry", "entry", "entry", "entry",
+    "entry", "entry", "entry", "site", "site", "verdict", "end",
+];
+
+// That this line of the text is told to be wrong, by this kind.
+fn assert_wrong<R: Threads + Wait + Sync + Abort>(
+    rt: &R,
+    alloc: Global,
+    text: &[u8],
+    line: u32,
+    kind: &str,
+) -> Result<(), Fail> {
+    let (status, written) = answer(rt, alloc, &["replay"], text)?;
+    assert_eq!(rt; status, Status::Invalid, "{} bytes", text.len());
+    let want = format!(in alloc; "invalid {line} {kind}\n")?;
+    assert_eq!(rt;
+        str::from_utf8(&written)?,
+        want.as_str(),
+        "{} bytes",
+        text.len()
+    );
+    Ok(())
+}
+
+// A line that is cut is wrong by its kind. Where an entry is missing a site is expected.
+#[test]
+fn each_proper_front_of_a_report_is_told(rt: HostRuntime) -> Result<(), Fail> {
+    let alloc = rt.alloc();
+    let report = hospital().report;
+    let mut front = Vec::new(alloc);
+    for (number, (line, kind)) in (1u32..).zip(report.lines().zip(KINDS)) {
+        let missing = if kind == "entry" { "site" } else { kind };
+        assert_wrong(&rt, alloc, &front, number, missing)?;
+        for byte in line.as_bytes() {
+            front.push(*byte)?;
+            assert_wrong(&rt, alloc, &front, number, kind)?;
+        }
+        front.push(b'\n')?;
+    }
+    assert_eq!(rt; front.as_slice(), report.as_bytes());
     Ok(())
 }

@@ -7,6 +7,16 @@ use std::test::Fail;
 // Row no session.
 const OTHER: &str = r#"{"graph":{"events":[{"name":"a"}]},"cover":[{"site":"x","events":["a"]}]}"#;
 
+// Bytes that were drawn at random.
+const NOISE: [u8; 96] = [
+    0xf1, 0xf1, 0x8c, 0xc3, 0xd1, 0x37, 0x07, 0x6a, 0xb8, 0x99, 0x3c, 0x7a, 0x2e, 0x64, 0xd9, 0x33,
+    0xe1, 0xe3, 0x85, 0x55, 0x16, 0xde, 0x0f, 0x48, 0x1a, 0x72, 0x01, 0x56, 0x2f, 0xba, 0x3e, 0xbb,
+    0xa1, 0xec, 0x60, 0x2e, 0xc1, 0xf0, 0xcd, 0xd7, 0xa3, 0xdf, 0xc0, 0x3c, 0x29, 0x4d, 0x19, 0xde,
+    0x8f, 0x27, 0x43, 0x7a, 0x14, 0x49, 0xf5, 0xf5, 0x7e, 0x9a, 0x4c, 0xaa, 0x28, 0x63, 0xb3, 0x8c,
+    0xa5, 0xb9, 0x2e, 0x58, 0x47, 0xc5, 0xd1, 0xde, 0x27, 0xf1, 0x86, 0x15, 0x4f, 0xc3, 0x7a, 0x4e,
+    0x5f, 0x06, 0x37, 0x86, 0x43, 0x8b, 0x8c, 0x16, 0x6c, 0x9f, 0xb0, 0xdf, 0x1c, 0xca, 0x5b, 0xc5,
+];
+
 // That the disk was refused by this line, and has the bytes that it had.
 fn assert_refused(rt: &impl Abort, ran: &Ran, line: &str, bytes: &[u8]) {
     assert_eq!(rt; ran.status, Status::TapeRefused, "{line}");
@@ -26,6 +36,30 @@ fn row_tape_refusals(rt: HostRuntime) -> Result<(), Fail> {
     tape[67] = 9;
     let ran = run_on(&rt, rt.alloc(), CALLS, disk_of(alloc, &tape, &[])?)?;
     assert_refused(&rt, &ran, "tape bad 0\n", &tape);
+    Ok(())
+}
+
+#[test]
+fn bytes_that_are_no_tape_are_left_alone(rt: HostRuntime) -> Result<(), Fail> {
+    let alloc = rt.alloc();
+    let mut header = new_tape(alloc)?;
+    header.truncate(64);
+    // The first eight bytes of a tape, and then others.
+    let mut begun = b"DCRTAPE\x02".to_vec(alloc)?;
+    begun.extend_from_slice(&NOISE)?;
+    let rows: [(&[u8], &str); 6] = [
+        (&[0], "a byte"),
+        (header.as_slice(), "a header alone"),
+        (&NOISE, "other bytes"),
+        (begun.as_slice(), "other bytes behind the first eight"),
+        (&[0; 4096], "zero bytes"),
+        (OTHER.as_bytes(), "a case file"),
+    ];
+    for (bytes, why) in rows {
+        let ran = run_on(&rt, alloc, CALLS, disk_of(alloc, bytes, &[])?)?;
+        assert_eq!(rt; ran.status, Status::TapeRefused, "{why}");
+        assert_refused(&rt, &ran, "tape not-tape\n", bytes);
+    }
     Ok(())
 }
 

@@ -1,4 +1,6 @@
 // Rows on bytes that are no tape of the case.
+ghost use Rattle.std.specs.Prelude.{◌<◌};
+
 use crate::support::{DIGEST, header, new_tape, old_tape, opened, refusal};
 use dcr_tape::TapeCause;
 use std::alloc::{AllocError, Global};
@@ -70,6 +72,39 @@ fn a_tape_that_is_cut_has_a_bad_record(rt: HostRuntime) -> Result<(), Fail> {
             "{left} bytes: {cause:?}"
         );
     }
+    Ok(())
+}
+
+// That the bytes are no tape where there are fewer than 65 of them, and that record R is told where its gate or its rest is
+// missing; of the records each has so many bytes.
+fn assert_fronts(rt: &impl Abort, alloc: Global, tape: &[u8], width: u32) -> Result<(), AllocError>
+    requires { 0 < width }
+{
+    let mut front = Vec::new(alloc);
+    for (count, byte) in (0u32..).zip(tape) {
+        let cause = if count < 65 {
+            TapeCause::NotTape
+        } else {
+            TapeCause::BadTape {
+                at: (count - 64) / width,
+            }
+        };
+        // No bytes at all are a disk on which a tape may be made.
+        if count > 0 {
+            let found = refusal(alloc, &front, &DIGEST)?;
+            assert!(rt; found == Some(cause), "{count} bytes: {found:?}");
+        }
+        front.push(*byte)?;
+    }
+    assert!(rt; refusal(alloc, &front, &DIGEST)?.is_none());
+    Ok(())
+}
+
+#[test]
+fn each_proper_front_of_a_tape_is_refused(rt: HostRuntime) -> Result<(), Fail> {
+    let alloc = rt.alloc();
+    assert_fronts(&rt, alloc, &new_tape(alloc)?, 12)?;
+    assert_fronts(&rt, alloc, &old_tape(alloc)?, 8)?;
     Ok(())
 }
 
