@@ -23,7 +23,7 @@ use Rattle.dcr_nest.specs.declared.node.Version.{Version}
 use Rattle.dcr_nest.specs.declared.node.Version.TheVariants.{V1, V2}
 use Rattle.dcr_proj.specs.CoverValue.{Owners}
 use Rattle.dcr_canon.specs.GraphText.{graph_value, relation_value, relation_values}
-use Rattle.dcr_canon.specs.CoverText.{cover_value}
+use Rattle.dcr_canon.specs.CoverText.{cover_value, cover_text}
 use Rattle.dcr_canon.proofs.PlainLemmas.{IsPlain, plain_string, plain_items, plain_array, plain_relations, plain_cover, text_written, json_written}
 use Rattle.dcr_canon.proofs.Utf8Lemmas.{IsUtf8Value, value_utf8, all_utf8, name_utf8, relations_utf8, cover_utf8}
 use Rattle.dcr_shape.specs.Contents.{AreBeside, IsEventObject, Contains, texts_array}
@@ -51,8 +51,10 @@ use Rattle.dcr_reading.specs.File.{version_text, graph_file, cover_file}
 use Rattle.dcr_reading.specs.Found.{written_in, cover_found, told_found}
 use Rattle.dcr_reading.specs.Lent.{texts_of}
 use Rattle.dcr_reading.proofs.CoverLemmas.{atom_names_are, cover_is_found}
+use Rattle.dcr_reading.proofs.CoverNoneLemmas.{text_short as cover_short}
+use Rattle.dcr_reading.proofs.EscapeLemmas.{quoted_short}
 use Rattle.dcr_reading.proofs.GraphLemmas.{relation_of, file_of as graph_written, shape_is}
-use Rattle.dcr_reading.proofs.LengthLemmas.{quoted_short, member_short, items_short, relation_short}
+use Rattle.dcr_reading.proofs.LengthLemmas.{member_short, items_short, relation_short}
 use Rattle.dcr_reading.proofs.SiteLemmas.{sites_of, file_of as cover_written, sites_found}
 use Rattle.dcr_reading.proofs.StageLemmas.{listed_of, written_parts}
 use Rattle.dcr_reading.proofs.TextLemmas.{names_utf8, names_short}
@@ -63,7 +65,7 @@ use Rattle.dcr_json.specs.Refusals.{SpellsJson, Writes, HasNodes, HasNoClash, Is
 use Rattle.dcr_json.proofs.CallTextLemmas.{call_utf8}
 use Rattle.dcr_json.proofs.ClashLemmas.{Clashing, apart, clash, clashing}
 use Rattle.dcr_json.proofs.EntryLemmas.{get_entry, alone, of_mapped, plain_entries, entries_utf8, bytes_of, entries_short}
-use Rattle.dcr_json.proofs.LengthLemmas.{cover_short, sessions_short}
+use Rattle.dcr_json.proofs.LengthLemmas.{sessions_short}
 use Rattle.dcr_json.proofs.ListLemmas.{beside_maps, sum_mapped}
 use Rattle.dcr_json.proofs.RefusalLemmas.{cases_law}
 use Rattle.dcr_json.proofs.WrittenLemmas.{written_with, many_events, are_nodes, few_atoms, short_labels}
@@ -306,11 +308,11 @@ module _ (case : Spelled) (ok : IsWritable case) where
       let second = member_short true (codes "relations") relations no_members in
       let nodes = items_short 2300 (λ x. event_value (event_written N M x)) (range_with_len 0 (length N.nodes)) (λ i x is. event_short x) false in
       let many = length-range_with_len 0 (length N.nodes) in
-      let pairs = items_short 900 (relation_value names) N.relations (λ i pair is. relation_short names (names_short names ok.graph.names) pair) false in
+      let pairs = items_short 192 (relation_value names) N.relations (λ i pair is. relation_short names ok.graph.names pair) false in
       let few = ok.graph.nested.most_nodes in let few_pairs = ok.graph.nested.most_relations in omega arith
 
   is_short : length (case_text case) ≤ 16777216
-  unfolding case_text case_value
+  unfolding case_text case_value cover_text
   is_short =
       let cover = cover_value atoms_named case.cover in
       let graph = opened_value N M in

@@ -1,8 +1,9 @@
 // Worked rows: texts that are read, and texts that spell nothing.
 use crate::shown::{assert_text, cover_text, nodes_text, relations_text};
 use dcr_nest::{Nested, Version};
-use dcr_reading::{read_cover_text, read_graph_text};
+use dcr_reading::{MAX_BYTES, read_cover_text, read_graph_text};
 use std::alloc::Global;
+use std::fmt::Write;
 use std::process::Abort;
 use std::test::Fail;
 
@@ -193,5 +194,38 @@ fn a_cover_of_nothing(rt: HostRuntime) -> Result<(), Fail> {
     let text = b"[{\"events\":[],\"site\":\"x\"}]";
     let found = read_cover_text(rt.alloc(), text, &nested, &flat)?;
     assert!(rt; found.is_some());
+    Ok(())
+}
+
+// The piece so many times with a comma between, each with a number of four digits between its two halves.
+fn listed(alloc: Global, before: &str, after: &str, count: u16) -> Result<String, Fail> {
+    let mut text = String::new(alloc);
+    for k in 0..count {
+        let comma = if k == 0 { "" } else { "," };
+        write!(text, "{comma}{before}{}{after}", 1_000 + u32::from(k))?;
+    }
+    Ok(text)
+}
+
+#[test]
+fn the_longest_cover_is_read(rt: HostRuntime) -> Result<(), Fail> {
+    let alloc = rt.alloc();
+    // All names have 64 bytes.
+    let name = "n".repeat(alloc, 60)?;
+    let node = format!(in alloc; "{{\"label\":\"\",\"name\":\"{name}")?;
+    let nodes = listed(alloc, node.as_str(), "\"}", 1_024)?;
+    let text = format!(in alloc; "{{\"events\":[{nodes}],\"relations\":[]}}")?;
+    let nested = graph(alloc, text.as_str(), Version::V1)?;
+    let flat = nested.flatten(alloc)?;
+    let owned = listed(alloc, format!(in alloc; "\"{name}")?.as_str(), "\"", 1_024)?;
+    let site = format!(in alloc; "{{\"events\":[{owned}],\"site\":\"{name}")?;
+    let sites = listed(alloc, site.as_str(), "\"}", 64)?;
+    let cover = format!(in alloc; "[{sites}]")?;
+    assert_eq!(rt; cover.len(), MAX_BYTES);
+    let found = read_cover_text(alloc, cover.as_bytes(), &nested, &flat)?;
+    assert!(rt; found.is_some());
+    let longer = format!(in alloc; "{cover} ")?;
+    let found = read_cover_text(alloc, longer.as_bytes(), &nested, &flat)?;
+    assert!(rt; found.is_none());
     Ok(())
 }

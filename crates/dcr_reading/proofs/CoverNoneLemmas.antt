@@ -1,5 +1,5 @@
 -- Where there is no cover whose canonical text the bytes are.
-use Rattle.std.proofs.Common.{◌≡◌, ◌≢◌, ℕ, ◌<◌, ◌≤◌, false, List, [], length, get_or, inl, inr, Option, Some, None, sym, ap, ◌∙◌, arith}
+use Rattle.std.proofs.Common.{◌≡◌, ◌≢◌, ℕ, ◌<◌, ◌≤◌, List, [], length, get_or, inl, inr, Option, Some, None, sym, ap, ◌∙◌, arith}
 use Rattle.std.specs.List.{range_with_len}
 use Rattle.std.proofs.lemmas.Bool.{cases_lt}
 use Rattle.std.proofs.lemmas.List.{get_or_past}
@@ -15,32 +15,33 @@ use Rattle.dcr_canon.specs.Laws.{AreJson}
 use Rattle.dcr_reading.specs.Accepted.{AreAllNames, IsAcceptedCover, IsCoverIn, atom_names}
 use Rattle.dcr_reading.specs.File.{cover_file}
 use Rattle.dcr_reading.specs.Found.{told_found, written_in}
+use Rattle.dcr_reading.specs.declared.value.TheConstants.{MAX_BYTES}
 use Rattle.dcr_reading.proofs.CoverLemmas.{cover_is_found}
-use Rattle.dcr_reading.proofs.LengthLemmas.{items_short, site_short}
-use Rattle.dcr_reading.proofs.TextLemmas.{names_utf8, names_short}
+use Rattle.dcr_reading.proofs.EscapeLemmas.{quoted_any}
+use Rattle.dcr_reading.proofs.LengthLemmas.{list_short, site_short}
+use Rattle.dcr_reading.proofs.TextLemmas.{names_utf8}
 
 -- a set of a cover, which is empty where there is none, has room for 1,024 atoms at most
-pub rooms_few : (N : Nest) (C : Owners) → IsNested N → IsAcceptedCover N C → (i : ℕ) → length (get_or C.owned i []) ≤ 1024
+rooms_few : (N : Nest) (C : Owners) → IsNested N → IsAcceptedCover N C → (i : ℕ) → length (get_or C.owned i []) ≤ 1024
 rooms_few N C nested ok i = elim (cases_lt i (length C.owned)) [
   | inl within ↦ (let room = ok.rooms i [] within in let most = nested.most_atoms in omega arith)
   | inr past ↦ (let none : length (get_or C.owned i []) ≡ 0 = ap (λ (set : Set). length set) (get_or_past C.owned i [] past) in omega arith)
 ]
 
-text_short : (N : Nest) (C : Owners) → IsNested N → AreAllNames (atom_names N) → IsAcceptedCover N C → length (cover_text (atom_names N) C) ≤ 33554432
+-- no accepted cover has a longer text
+pub text_short : (N : Nest) (C : Owners) → IsNested N → AreAllNames (atom_names N) → IsAcceptedCover N C → length (cover_text (atom_names N) C) ≤ MAX_BYTES
 unfolding cover_text cover_value
 text_short N C nested are ok =
-    let short = names_short (atom_names N) are in
-    let own = names_short C.names ok.names in
-    let sites = items_short 400000 (λ i. site_value (atom_names N) (get_or C.names i []) (get_or C.owned i [])) (range_with_len 0 (length C.names))
-    (λ k i is. site_short (atom_names N) short (get_or C.names i []) (get_or C.owned i []) (own i) (rooms_few N C nested ok i)) false in
     let many = length-range_with_len 0 (length C.names) in
-    let few = ok.is_cover.most_sites in omega arith
+    let few = ok.is_cover.most_sites in
+    let sites = list_short 68694 64 (λ i. site_value (atom_names N) (get_or C.names i []) (get_or C.owned i [])) (range_with_len 0 (length C.names))
+    (λ k i is. site_short (atom_names N) are (get_or C.names i []) (get_or C.owned i []) (quoted_any C.names ok.names i) (rooms_few N C nested ok i)) (omega arith) (omega arith) in omega arith
 
 module _ (law : AreJson) (N : Nest) (nested : IsNested N) (are : AreAllNames (atom_names N)) (bytes : List ℕ) where
   text_json : (C : Owners) → IsAcceptedCover N C → bytes ≡ cover_text (atom_names N) C → json_in bytes ≡ Some (cover_value (atom_names N) C)
   text_json C ok same = ap json_in same ∙ law.cover (atom_names N) C (names_utf8 (atom_names N) are) (names_utf8 C.names ok.names)
 
-  pub none_long : 33554432 < length bytes → IsCoverIn N bytes None
+  pub none_long : MAX_BYTES < length bytes → IsCoverIn N bytes None
   none_long long = λ C ok same. (let short = text_short N C nested are ok in let many : length bytes ≡ length (cover_text (atom_names N) C) = ap (λ (text : List ℕ). length text) same in omega arith)
 
   pub none_json : None ≡ json_in bytes → IsCoverIn N bytes None

@@ -3,6 +3,7 @@ use Rattle.std.proofs.Common.{◌≡◌, ◌≢◌, ℕ, ◌<◌, ◌≤◌, tru
 use Rattle.std.proofs.lemmas.Bool.{leb-true}
 use Rattle.std.proofs.lemmas.List.{length-map}
 use Rattle.std.proofs.lemmas.Option.{none-some, same_Some, slice_get_within}
+use Rattle.json.specs.Print.{quoted}
 use Rattle.serde_json.specs.Data.{Data, array, no_members, member}
 use Rattle.serde_json.specs.View.{items_of}
 use Rattle.dcr_size.specs.Laws.{json_in}
@@ -17,34 +18,35 @@ use Rattle.dcr_canon.specs.Laws.{AreJson}
 use Rattle.dcr_reading.specs.Accepted.{IsAcceptedGraph, IsGraphIn}
 use Rattle.dcr_reading.specs.File.{graph_file}
 use Rattle.dcr_reading.specs.Found.{nested_found, nodes_of}
+use Rattle.dcr_reading.specs.declared.value.TheConstants.{MAX_BYTES}
+use Rattle.dcr_reading.proofs.EscapeLemmas.{quoted_any}
 use Rattle.dcr_reading.proofs.GraphLemmas.{graph_found}
 use Rattle.dcr_reading.proofs.LengthLemmas.{member_short, items_short, node_short, relation_short}
 use Rattle.dcr_reading.proofs.StageLemmas.{at_index}
-use Rattle.dcr_reading.proofs.TextLemmas.{names_utf8, names_short}
+use Rattle.dcr_reading.proofs.TextLemmas.{names_utf8}
 
--- the canonical text of an accepted graph is short
-pub text_short : (version : Version) (N : Nest) → IsAcceptedGraph version N → length (graph_text N) ≤ 8388608
+-- no accepted graph has a longer text
+text_short : (version : Version) (N : Nest) → IsAcceptedGraph version N → length (graph_text N) ≤ MAX_BYTES
 unfolding graph_text graph_value
 text_short version N ok =
     let names = names_of N.nodes in
-    let short = names_short names ok.names in
     let events = items_of (event_values N.nodes) in
     let relations = items_of (relation_values names N.relations) in
     let first = member_short false (codes "events") (array events) (member (codes "relations") (array relations) no_members) in
     let second = member_short true (codes "relations") (array relations) no_members in
-    let nodes = items_short 2100 (node_value names) N.nodes (λ i node is.
-    let name : length node.name ≤ 64 = subst (λ (text : List ℕ). length text ≤ 64) (at_index (λ (n : Node). n.name) N.nodes i node [] is) (short i) in
+    let nodes = items_short 1438 (node_value names) N.nodes (λ i node is.
+    let name = subst (λ (text : List ℕ). length (quoted text) ≤ 66) (at_index (λ (n : Node). n.name) N.nodes i node [] is) (quoted_any names ok.names i) in
     let within : i < length (labels_of N.nodes) = (let l = slice_get_within N.nodes i node is in omega (arith, length-map N.nodes (λ (n : Node). n.label))) in
     let label = leb-true (length node.label) 200 (ap is_label (sym (at_index (λ (n : Node). n.label) N.nodes i node [] is)) ∙ ok.labels i [] within) in
-    node_short names short node.name node.label node.parent name label) false in
-    let pairs = items_short 900 (relation_value names) N.relations (λ i pair is. relation_short names short pair) false in
+    node_short names ok.names node.name node.label node.parent name label) false in
+    let pairs = items_short 192 (relation_value names) N.relations (λ i pair is. relation_short names ok.names pair) false in
     let few = ok.nested.most_nodes in let few_pairs = ok.nested.most_relations in omega arith
 
 -- the bytes are the value of an accepted graph whose text they are
 text_json : AreJson → (version : Version) (N : Nest) → IsAcceptedGraph version N → (bytes : List ℕ) → bytes ≡ graph_text N → json_in bytes ≡ Some (graph_value N)
 text_json law version N ok bytes same = ap json_in same ∙ law.graph N (names_utf8 (names_of N.nodes) ok.names) ok.texts
 
-pub none_long : (version : Version) (bytes : List ℕ) → 33554432 < length bytes → IsGraphIn version bytes None
+pub none_long : (version : Version) (bytes : List ℕ) → MAX_BYTES < length bytes → IsGraphIn version bytes None
 none_long version bytes long = λ N ok same. (let short = text_short version N ok in let many : length bytes ≡ length (graph_text N) = ap (λ (text : List ℕ). length text) same in omega arith)
 
 pub none_json : AreJson → (version : Version) (bytes : List ℕ) → None ≡ json_in bytes → IsGraphIn version bytes None

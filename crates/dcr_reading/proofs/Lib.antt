@@ -3,6 +3,7 @@ mod MemoryLemmas
 pub mod StageLemmas
 mod NamedLemmas
 pub mod TextLemmas
+pub mod EscapeLemmas
 pub mod LengthLemmas
 pub mod GraphLemmas
 pub mod GraphNoneLemmas

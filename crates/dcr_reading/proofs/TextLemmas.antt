@@ -10,7 +10,7 @@ use Rattle.dcr_nest.specs.Nest.{names_of, labels_of}
 use Rattle.dcr_nest.specs.declared.node.Node.{Node}
 use Rattle.dcr_reading.specs.Accepted.{AreAllNames}
 
-either : (a b : Bool) → (a || b) ≡ true → (a ≡ true) ⊎ (b ≡ true)
+pub either : (a b : Bool) → (a || b) ≡ true → (a ≡ true) ⊎ (b ≡ true)
 either true b e = inl refl
 either false b e = inr e
 

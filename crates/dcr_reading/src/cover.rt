@@ -9,6 +9,7 @@ ghost use Rattle.dcr_size.specs.Size.{size};
 ghost use Rattle.dcr_reading.specs.Accepted.{IsCoverIn};
 ghost use Rattle.dcr_reading.specs.Found.{cover_found, told_found, written_in};
 ghost use Rattle.dcr_reading.specs.Lent.{texts_of};
+ghost use Rattle.dcr_reading.specs.declared.value.TheConstants.{MAX_BYTES};
 
 use crate::accepted::{see_cover, see_texts};
 use crate::file::{cover_file, read_written};
@@ -26,7 +27,7 @@ use std::alloc::Global;
 
 /// The cover of a nested graph, with this flattening, whose canonical text the bytes are. None exactly where they
 /// are the text of no cover that is accepted: one of 1 to 64 sites, whose names are names and distinct, and which
-/// own each atom. `NoMemory` where memory could not be had; none is taken for a text of more than 33,554,432 bytes.
+/// own each atom. `NoMemory` where memory could not be had; none is taken for a text of more than `MAX_BYTES` bytes.
 pub fn read_cover_text(
     alloc: Global,
     bytes: &[u8],
@@ -35,7 +36,7 @@ pub fn read_cover_text(
 ) -> Result<Option<Cover>, NoMemory>
     requires { IsFlattening nested.now graph.now }
     ensures found { IfOk result (λ found. IsCoverIn nested.now bytes.now found) }
-    ensures too_long { 33554432 < length bytes.now → result ≡ Ok None }
+    ensures too_long { MAX_BYTES < length bytes.now → result ≡ Ok None }
 {
     canonical_texts_are_json();
     see_texts(nested.nodes());

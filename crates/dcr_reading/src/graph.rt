@@ -8,6 +8,7 @@ ghost use Rattle.dcr_shape.specs.Says.{Says};
 ghost use Rattle.dcr_size.specs.Size.{size};
 ghost use Rattle.dcr_reading.specs.Accepted.{IsGraphIn};
 ghost use Rattle.dcr_reading.specs.Found.{nested_found, nodes_of};
+ghost use Rattle.dcr_reading.specs.declared.value.TheConstants.{MAX_BYTES};
 
 use crate::accepted::see_graph;
 use crate::file::{graph_file, read_written};
@@ -24,14 +25,14 @@ use std::alloc::Global;
 /// The nested graph of this version whose canonical text the bytes are. None exactly where they are the text of
 /// no graph that is accepted: one within the limits, whose names are names and distinct, whose parents stand
 /// earlier, whose relations are of the version's kinds, and which has no clash. `NoMemory` where memory could
-/// not be had; none is taken for a text of more than 33,554,432 bytes.
+/// not be had; none is taken for a text of more than `MAX_BYTES` bytes.
 pub fn read_graph_text(
     alloc: Global,
     bytes: &[u8],
     version: Version,
 ) -> Result<Option<Nested>, NoMemory>
     ensures found { IfOk result (λ found. IsGraphIn version bytes.now found) }
-    ensures too_long { 33554432 < length bytes.now → result ≡ Ok None }
+    ensures too_long { MAX_BYTES < length bytes.now → result ≡ Ok None }
 {
     canonical_texts_are_json();
     if bytes.len() > MAX_BYTES {

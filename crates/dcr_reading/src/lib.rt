@@ -15,4 +15,4 @@ pub use cover::read_cover_text;
 pub use graph::read_graph_text;
 pub use laws::accepted_texts_mean_one;
 pub use sites::{LentSite, lend};
-pub use value::read_json;
+pub use value::{MAX_BYTES, read_json};

@@ -7,8 +7,9 @@ use dcr_set::NoMemory;
 use serde_json::Value;
 use std::alloc::Global;
 
-/// The most bytes of a canonical text: each text of a graph or a cover within the limits is shorter.
-pub(crate) const MAX_BYTES: usize = 33_554_432;
+/// The most bytes of a canonical text: those of a cover of 64 sites, each of which owns 1,024 atoms, where all names
+/// have 64 bytes. The text of a graph within the limits is shorter.
+pub const MAX_BYTES: usize = 4_396_481;
 
 /// The JSON value that the bytes are: its size is at most their number. None exactly where they are none.
 /// `NoMemory` where memory could not be had.

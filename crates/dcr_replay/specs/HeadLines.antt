@@ -11,6 +11,7 @@ use Rattle.dcr_proj.specs.CoverValue.{Owners}
 use Rattle.dcr_line.specs.MarkLine.{mark_in}
 use Rattle.dcr_report.specs.Report.{version_text}
 use Rattle.dcr_reading.specs.Accepted.{IsGraphIn, IsCoverIn}
+use Rattle.dcr_reading.specs.declared.value.TheConstants.{MAX_BYTES}
 use Rattle.dcr_replay.specs.Cut.{Line, whole}
 
 -- what is behind a word that the text begins with
@@ -36,7 +37,7 @@ version_at lines = option_and_then version_of (first_text lines)
 
 -- behind the word the first line tells no text, or one that is longer than each canonical text
 abbrev pub TellsNoText : List ℕ → List Line → Type 0
-TellsNoText word lines = MatchOption (first_behind word lines) ⊤ (λ text. 33554432 < length text)
+TellsNoText word lines = MatchOption (first_behind word lines) ⊤ (λ text. MAX_BYTES < length text)
 
 -- the graph of this version that the first line tells, where it tells one
 abbrev pub IsGraphAt : Version → List Line → Option Nest → Type 0
