@@ -159,7 +159,7 @@ fn count_done(history: &Journal) -> u32
 {
     let mut done = 0;
     for place in 0..history.len() {
-        let entry = history.kept(place).unwrap();
+        let entry = history.get(place).unwrap();
         if is_done(&entry.outcome) {
             done += 1;
         }

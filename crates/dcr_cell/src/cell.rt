@@ -4,6 +4,7 @@ ghost use Rattle.dcr_cell.specs.Laws.{asked};
 ghost use Rattle.dcr_set.specs.Least.{lesser};
 
 use crate::ClusterName;
+use dcr_graph::Cause;
 use dcr_journal::{Call, Outcome};
 use dcr_lock::Placed;
 use dcr_set::{EventId, SiteId};
@@ -107,13 +108,19 @@ impl<N: ClusterName> Cell<N> {
     }
 }
 
-// What an execution is told of which a site decides this. It stands by itself, since room for an outcome is cleared where
-// it begins.
+// What an execution is told of which a site decides this. Each answer is written where it is to stand, so that no room for
+// sets is moved. It stands by itself, since room for an outcome is cleared where it begins.
 #[inline(never)]
 fn decided(decision: Decision, told: &mut Outcome)
     ensures { told.new ≡ outcome_decided decision }
 {
-    *told = Outcome::of_decision(decision);
+    match decision {
+        Decision::NotHere => *told = Outcome::NotHere,
+        Decision::Enabled => *told = Outcome::Done,
+        Decision::Blocked(Cause::Excluded) => *told = Outcome::Excluded,
+        Decision::Blocked(Cause::Condition(EventId(c))) => *told = Outcome::Condition(EventId(c)),
+        Decision::Blocked(Cause::Milestone(EventId(m))) => *told = Outcome::Milestone(EventId(m)),
+    }
 }
 
 // The one site that a call asks. None where it asks all.
@@ -147,5 +154,8 @@ fn wait_for(verdict: &mut Outcome, event: EventId)
         Outcome::Waits(e) => Some(*e),
         _ => None,
     };
-    *verdict = Outcome::verdict(EventId::lesser(before, Some(event)));
+    match EventId::lesser(before, Some(event)) {
+        None => *verdict = Outcome::AllDone,
+        Some(least) => *verdict = Outcome::Waits(least),
+    }
 }

@@ -1,4 +1,3 @@
-pub mod BlockLemmas
-pub mod HistoryLemmas
+pub mod SlotLemmas
 pub mod RunLemmas
 pub mod SoundLemmas

@@ -1,18 +1,20 @@
 -- What the fields of a journal stand for.
-use Rattle.std.specs.Prelude.{◌≡◌, ◌+◌, ◌*◌, ◌≤◌, length, vec_capacity}
-use Rattle.dcr_journal.specs.Blocks.{entries_in, HasEntries}
+use Rattle.std.specs.Prelude.{◌+◌, ◌-◌, ◌*◌, ◌≤◌, length, map, vec_capacity}
+use Rattle.std.specs.List.{All}
+use Rattle.dcr_journal.specs.Slots.{entry_at, IsKept}
 use Rattle.dcr_journal.specs.JournalValue.{History}
 use Rattle.dcr_journal.specs.declared.journal.Journal.TheInside.{Inside}
+use Rattle.dcr_journal.specs.declared.slot.TheConstants.{MOST_WORDS}
 
 abbrev pub history_of : Inside → History
-history_of j = record { entries = entries_in j.blocks.items; capacity = j.capacity }
+history_of j = record { entries = map (entry_at j.row.items) j.slots.items; capacity = j.capacity }
 
--- the blocks in use have the entries that are counted; with the blocks in the pool they have room for the capacity,
--- and there is a place for each of these
+-- the sets of each slot stand in the row, and there are places for as many more entries as the capacity allows, and
+-- words for the sets of each
 pub record FitsCapacity (j : Inside) : Type 0 where
   pub most : j.capacity ≤ 200000
-  pub within : j.len ≤ j.capacity
-  pub filled : HasEntries j.blocks.items j.len
-  pub per_block : j.pool.per_block ≡ 256
-  pub enough : j.capacity ≤ 256 * (length j.blocks.items + j.pool.spare)
-  pub reserved : length j.blocks.items + j.pool.spare ≤ vec_capacity j.blocks
+  pub within : length j.slots.items ≤ j.capacity
+  pub kept : All (IsKept j.row.items) j.slots.items
+  pub few : length j.row.items ≤ MOST_WORDS * length j.slots.items
+  pub places : j.capacity ≤ vec_capacity j.slots
+  pub words : length j.row.items + MOST_WORDS * (j.capacity - length j.slots.items) ≤ vec_capacity j.row

@@ -1,4 +1,4 @@
-pub mod Blocks
+pub mod Slots
 pub mod JournalValue
 pub mod JournalModel
 pub mod Answer

@@ -1,3 +1,6 @@
+ghost use Rattle.std.specs.Prelude.{◌≡◌};
+ghost use Rattle.dcr_journal.specs.declared.call.Outcome.TheVariants.{Marks, Can};
+
 use dcr_graph::{Cause, SiteMark};
 use dcr_set::{EventId, EventSet, SiteId};
 use dcr_site::Decision;
@@ -90,12 +93,29 @@ impl Outcome {
             Outcome::Condition(e) => Outcome::Condition(*e),
             Outcome::Milestone(e) => Outcome::Milestone(*e),
             Outcome::Faulted => Outcome::Faulted,
-            Outcome::Marks(mark) => Outcome::Marks(mark.copy()),
-            Outcome::Can(set) => Outcome::Can(set.copy()),
+            Outcome::Marks(mark) => copy_marks(mark),
+            Outcome::Can(set) => copy_set(set),
             Outcome::AllDone => Outcome::AllDone,
             Outcome::Waits(e) => Outcome::Waits(*e),
         }
     }
+}
+
+// The answer to a look with these marks. It stands by itself, as the next one does: where the sets are moved beside the
+// other outcomes, each of those is moved as a whole too.
+#[inline(never)]
+fn copy_marks(mark: &SiteMark) -> Outcome
+    ensures { result ≡ Marks mark.now }
+{
+    Outcome::Marks(mark.copy())
+}
+
+// The answer to the question what is enabled, with this set.
+#[inline(never)]
+fn copy_set(set: &EventSet) -> Outcome
+    ensures { result ≡ Can set.now }
+{
+    Outcome::Can(set.copy())
 }
 
 /// One call in the journal. Its place there is its number in the one order of all calls.

@@ -1,21 +1,25 @@
-ghost use Rattle.std.specs.Prelude.{◌≡◌, ◌+◌, ◌-◌, ◌<◌, ◌≤◌, [], ◌∷◌, ◌++◌, length, ◌↔◌, IsTrue, IfOk, option_map, slice_get};
+ghost use Rattle.std.specs.Prelude.{◌≡◌, ◌+◌, ◌-◌, ◌<◌, ◌≤◌, [], ◌∷◌, ◌++◌, length, ◌↔◌, IsTrue, IfOk, slice_get};
 
-use crate::Entry;
-use crate::blocks::{PER_BLOCK, append};
-use dcr_pool::{Block, Pool};
+use crate::slot::{Kept, MOST_WORDS, Slot};
+use crate::{Call, Entry, Outcome};
 use dcr_set::NoMemory;
 use std::alloc::Global;
 use std::marker::Model;
+use std::mem::size_of;
+
+// A full journal takes under 6 MB, and under 100 MB where each entry tells marks over 1,024 atoms.
+const _: () = prove!(200_000 * size_of::<Slot>() < 6_000_000);
+
+const _: () = prove!(200_000 * (size_of::<Slot>() + MOST_WORDS * size_of::<u64>()) < 100_000_000);
 
 /// The journal of a run: its entries in their one order, and room for as many as its capacity. All its
 /// memory is taken when it is opened. Contracts see the list of entries and the capacity.
 #[derive(Drop)]
 pub struct Journal {
-    // The blocks that have entries, in order: each but the last is full.
-    blocks: Vec<Block<Entry>>,
-    // The blocks that have none yet.
-    pool: Pool<Entry>,
-    len: u32,
+    slots: Vec<Slot>,
+    // The sets of the slots' outcomes, one slot's behind the other's. Room for the most that there may be is taken when
+    // the journal is opened, and none of it is touched that no set needs.
+    row: Vec<u64>,
     capacity: u32,
 }
 
@@ -38,13 +42,11 @@ impl Journal {
         ensures empty { IfOk result (λ journal. journal.entries ≡ []) }
         ensures capacity { IfOk result (λ journal. journal.capacity ≡ capacity) }
     {
-        let count = capacity.div_ceil(PER_BLOCK);
-        let pool = Pool::open(alloc, count, PER_BLOCK)?;
-        let blocks = Vec::with_capacity(alloc, count as usize)?;
+        let slots = Vec::with_capacity(alloc, capacity as usize)?;
+        let row = Vec::with_capacity(alloc, MOST_WORDS * capacity as usize)?;
         Ok(Journal {
-            blocks,
-            pool,
-            len: 0,
+            slots,
+            row,
             capacity,
         })
     }
@@ -55,15 +57,33 @@ impl Journal {
         ensures entries { self.new.entries ≡ self.old.entries ++ entry ∷ [] }
         ensures capacity { self.new.capacity ≡ self.old.capacity }
     {
-        append(&mut self.blocks, &mut self.pool, self.len, entry);
-        self.len += 1;
+        self.push_call(entry.session, entry.seq, &entry.call, &entry.outcome);
+    }
+
+    /// Adds the entry of a call at the end: the session's, which had made `seq` calls before, with this outcome. Takes no
+    /// memory.
+    pub fn push_call(&mut self, session: u32, seq: u32, call: &Call, outcome: &Outcome)
+        requires { length self.old.entries < self.old.capacity }
+        ensures entries { self.new.entries ≡ self.old.entries
+            ++ record { session = session; seq = seq; call = call.now; outcome = outcome.now } ∷ [] }
+        ensures capacity { self.new.capacity ≡ self.old.capacity }
+    {
+        let place = self.row.len() as u32;
+        let outcome = Kept::of(outcome, &mut self.row);
+        self.slots.push_reserved(Slot {
+            session,
+            seq,
+            place,
+            call: *call,
+            outcome,
+        });
     }
 
     /// For how many more entries there is room.
     pub fn spare(&self) -> u32
         ensures spare { result + length self.now.entries ≡ self.now.capacity }
     {
-        self.capacity - self.len
+        self.capacity - self.len()
     }
 
     /// How many entries there are.
@@ -71,14 +91,14 @@ impl Journal {
         ensures len { result ≡ length self.now.entries }
         ensures room { length self.now.entries ≤ self.now.capacity }
     {
-        self.len
+        self.slots.len() as u32
     }
 
     /// Whether there is no entry.
     pub fn is_empty(&self) -> bool
         ensures { IsTrue result ↔ (self.now.entries ≡ []) }
     {
-        self.len == 0
+        self.slots.is_empty()
     }
 
     /// The entry at a place, from 0, as a value of its own. None exactly where the place is not below the length.
@@ -86,25 +106,14 @@ impl Journal {
     pub fn get(&self, place: u32) -> Option<Entry>
         ensures { result ≡ slice_get self.now.entries place }
     {
-        match self.kept(place) {
-            Some(entry) => Some(entry.copy()),
-            None => None,
-        }
-    }
-
-    /// The entry at a place, from 0, where it lies: nothing is copied. None exactly where the place is not below the
-    /// length.
-    pub fn kept(&self, place: u32) -> Option<&Entry>
-        ensures { option_map (λ entry. entry.now) result ≡ slice_get self.now.entries place }
-    {
-        let block = self.blocks.get((place / PER_BLOCK) as usize)?;
-        block.get((place % PER_BLOCK) as usize)
+        let slot = self.slots.get(place as usize)?;
+        Some(slot.entry(&self.row))
     }
 
     /// The last entry, as a value of its own. None exactly where there is none. Takes no memory.
     pub fn last(&self) -> Option<Entry>
         ensures { result ≡ slice_get self.now.entries (length self.now.entries - 1) }
     {
-        self.get(self.len.saturating_sub(1))
+        self.get(self.len().saturating_sub(1))
     }
 }

@@ -1,11 +1,11 @@
 //! Calls, their outcomes, and the journal of a run.
 #![tactic(auto)]
 
-mod blocks;
 mod call;
 mod closed;
 mod journal;
 mod list;
+mod slot;
 
 pub use call::{Call, Entry, Outcome};
 pub use closed::Closed;

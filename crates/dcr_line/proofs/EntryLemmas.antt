@@ -1,7 +1,7 @@
 -- Outcomes and entries, both ways.
 use Rattle.std.proofs.Common.{◌≡◌, inl, inr, ℕ, ◌<◌, ◌^◌, Bool, true, ◌&&◌, List, [], ◌∷◌, ◌++◌, length, codes, decimal, Some, None, Option, refl, sym, ap, subst, ◌∙◌, arith}
 use Rattle.std.specs.List.{list_all}
-use Rattle.std.specs.Option.{IfSome, option_and_then}
+use Rattle.std.specs.Option.{IfSome, option_and_then, option_map}
 use Rattle.std.specs.Str.{bytes_eq}
 use Rattle.std.proofs.lemmas.Bool.{false≢true}
 use Rattle.std.proofs.lemmas.List.{append-nil, append_assoc}
@@ -13,8 +13,10 @@ use Rattle.dcr_journal.specs.declared.call.Call.TheVariants.{Exec, Look, Enabled
 use Rattle.dcr_journal.specs.declared.call.Outcome.{Outcome}
 use Rattle.dcr_journal.specs.declared.call.Outcome.TheVariants.{Done, NotHere, Excluded, Condition, Milestone, Faulted, Marks, Can, AllDone, Waits}
 use Rattle.dcr_journal.specs.declared.call.Entry.{Entry}
+use Rattle.dcr_journal.specs.Run.{IsInRange}
 use Rattle.dcr_line.specs.CallLine.{call_from}
-use Rattle.dcr_line.specs.EntryLine.{EntryLinesAreRead, EntryTextsAreOne, IsToldEntry, entry_from, entry_in, enabled_outcome_from, exec_outcome_after, exec_outcome_from, look_outcome_from, naming_from, number_from, number_in, outcome_from, verdict_after, verdict_from}
+use Rattle.dcr_line.specs.declared.entry.Head.{Head}
+use Rattle.dcr_line.specs.EntryLine.{EntryLinesAreRead, EntryTextsAreOne, IsToldEntry, entry_from, entry_in, enabled_outcome_from, exec_outcome_after, exec_outcome_from, head_from, head_in, look_outcome_from, naming_from, number_from, number_in, outcome_from, verdict_after, verdict_from, with_head}
 use Rattle.dcr_line.specs.Fits.{FitsEntry, FitsOutcome, answers_accepting, answers_enabled, answers_exec, answers_look, is_of_kind}
 use Rattle.dcr_line.specs.Known.{AreNames}
 use Rattle.dcr_line.specs.Line.{call_words, entry_text, entry_words, name_of, outcome_words, spaced}
@@ -188,6 +190,35 @@ number_front words n rest e =
 number_taken : (n : ℕ) (rest : List (List ℕ)) → n < 2 ^ 32 → number_from (decimal n ∷ rest) ≡ Some (n, rest)
 number_taken n rest small = first_read number_in (decimal n) n rest (number_read (decimal n) n small refl)
 
+-- what was read from the front of words is a head that passes, and its words
+record HeadIs (sites names words : List (List ℕ)) (read : Head × List (List ℕ)) : Type 0 where
+  place : read.0.place < 2 ^ 32
+  session : read.0.session < 2 ^ 32
+  seq : read.0.seq < 2 ^ 32
+  call : IsInRange (length sites) (length names) read.0.call
+  is : words ≡ decimal read.0.place ∷ decimal read.0.session ∷ decimal read.0.seq ∷ (call_words sites names read.0.call ++ read.1)
+
+head_front : (sites names words : List (List ℕ)) (read : Head × List (List ℕ)) → head_from sites names words ≡ Some read → HeadIs sites names words read
+unfolding head_from
+head_front sites names words read e =
+    option_and_then_some _ (number_from words) _ e (λ place is_place e1.
+    option_and_then_some _ (number_from place.1) _ e1 (λ session is_session e2.
+    option_and_then_some _ (number_from session.1) _ e2 (λ seq is_seq e3.
+    option_and_then_some _ (call_from sites names seq.1) _ e3 (λ call is_call e4.
+    let first = number_front words place.0 place.1 is_place in
+    let second = number_front place.1 session.0 session.1 is_session in
+    let third = number_front session.1 seq.0 seq.1 is_seq in
+    let fourth = call_front sites names seq.1 call.1 call.0 is_call in
+    let found : Head × List (List ℕ) = (record { place = place.0; session = session.0; seq = seq.0; call = call.0 }, call.1) in
+    let told : HeadIs sites names words found = record {
+      place = first.0;
+      session = second.0;
+      seq = third.0;
+      call = fourth.0;
+      is = first.1 ∙ ap (λ ws. decimal place.0 ∷ ws) (second.1 ∙ ap (λ ws. decimal session.0 ∷ ws) (third.1 ∙ ap (λ ws. decimal seq.0 ∷ ws) fourth.1));
+    } in
+    subst (HeadIs sites names words) (same_Some _ _ e4) told))))
+
 abbrev EntryIs : List (List ℕ) → List (List ℕ) → List (List ℕ) → (ℕ × Entry) × List (List ℕ) → Type 0
 EntryIs sites names words read = IsToldEntry (length sites) (length names) read.0.0 read.0.1 × (words ≡ entry_words sites names read.0.0 read.0.1 ++ read.1)
 
@@ -195,33 +226,27 @@ EntryIs sites names words read = IsToldEntry (length sites) (length names) read.
 entry_front : (sites names words : List (List ℕ)) (read : (ℕ × Entry) × List (List ℕ)) → entry_from sites names words ≡ Some read → EntryIs sites names words read
 unfolding entry_from
 entry_front sites names words read e =
-    option_and_then_some _ (number_from words) _ e (λ place is_place e1.
-    option_and_then_some _ (number_from place.1) _ e1 (λ session is_session e2.
-    option_and_then_some _ (number_from session.1) _ e2 (λ seq is_seq e3.
-    option_and_then_some _ (call_from sites names seq.1) _ e3 (λ call is_call e4.
-    option_and_then_some _ (outcome_from names call.0 call.1) _ e4 (λ outcome is_outcome e5.
-    let first = number_front words place.0 place.1 is_place in
-    let second = number_front place.1 session.0 session.1 is_session in
-    let third = number_front session.1 seq.0 seq.1 is_seq in
-    let fourth = call_front sites names seq.1 call.1 call.0 is_call in
-    let fifth = outcome_front names call.0 call.1 outcome is_outcome in
-    let entry : Entry = record { session = session.0; seq = seq.0; call = call.0; outcome = outcome.0 } in
-    let found : (ℕ × Entry) × List (List ℕ) = ((place.0, entry), outcome.1) in
-    let fits : IsToldEntry (length sites) (length names) place.0 entry = record {
-      place = first.0;
-      session = second.0;
-      seq = third.0;
-      fits = record { call = fourth.0; kind = fifth.0; outcome = fifth.1 };
+    option_and_then_some _ (head_from sites names words) _ e (λ found is_head e1.
+    option_and_then_some _ (outcome_from names found.0.call found.1) _ e1 (λ outcome is_outcome e2.
+    let head = found.0 in
+    let first = head_front sites names words found is_head in
+    let second = outcome_front names head.call found.1 outcome is_outcome in
+    let entry = with_head head outcome.0 in
+    let fits : IsToldEntry (length sites) (length names) head.place entry = record {
+      place = first.place;
+      session = first.session;
+      seq = first.seq;
+      fits = record { call = first.call; kind = second.0; outcome = second.1 };
     } in
-    let said : words ≡ entry_words sites names place.0 entry ++ outcome.1 =
-    first.1 ∙ ap (λ ws. decimal place.0 ∷ ws) (second.1 ∙ ap (λ ws. decimal session.0 ∷ ws) (third.1 ∙ ap (λ ws. decimal seq.0 ∷ ws)
-    (fourth.1 ∙ ap (λ ws. call_words sites names call.0 ++ ws) fifth.2 ∙ sym (append_assoc (call_words sites names call.0) (outcome_words names outcome.0) outcome.1)))) in
-    subst (EntryIs sites names words) (same_Some _ _ e5) (fits, said))))))
+    let said : words ≡ entry_words sites names head.place entry ++ outcome.1 =
+    first.is ∙ ap (λ ws. decimal head.place ∷ decimal head.session ∷ decimal head.seq ∷ ws)
+    (ap (λ ws. call_words sites names head.call ++ ws) second.2 ∙ sym (append_assoc (call_words sites names head.call) (outcome_words names outcome.0) outcome.1)) in
+    subst (EntryIs sites names words) (same_Some _ _ e2) (fits, said)))
 
 -- and the entry's words are read as the entry
 entry_taken : (sites names : List (List ℕ)) → AreNames sites → AreNames names → (place : ℕ) (entry : Entry) (rest : List (List ℕ)) → IsToldEntry (length sites) (length names) place entry
     → entry_from sites names (entry_words sites names place entry ++ rest) ≡ Some ((place, entry), rest)
-unfolding entry_from
+unfolding entry_from head_from
 entry_taken sites names are_sites are_names place entry rest told =
     let said = call_words sites names entry.call in
     let answered = outcome_words names entry.outcome in
@@ -270,6 +295,20 @@ pub entry_texts : EntryTextsAreOne
 entry_texts sites names are_sites are_names p q a b told_a told_b same =
     let one : (p, a) ≡ (q, b) = same_Some _ _ (sym (entry_read sites names are_sites are_names p a told_a) ∙ ap (entry_in sites names) same ∙ entry_read sites names are_sites are_names q b told_b) in
     (ap (λ t. t.0) one, ap (λ t. t.1) one)
+
+-- what was read, without the words behind it
+pub first_read_is : {A : Type 0} (found : Option A) (front : Option (A × List (List ℕ))) (words : List (List ℕ)) → option_map (λ a. (a, words)) found ≡ front → found ≡ option_map (λ read. read.0) front
+first_read_is {A = A} None front words e = ap (option_map (λ (read : A × List (List ℕ)). read.0)) e
+first_read_is {A = A} (Some a) front words e = ap (option_map (λ (read : A × List (List ℕ)). read.0)) e
+
+-- the call of a head is of these sites and atoms
+pub head_in_range : (sites names : List (List ℕ)) (line : List ℕ) (found : Option Head) → found ≡ head_in sites names line → IfSome found (λ head. IsInRange (length sites) (length names) head.call)
+head_in_range sites names line found e = by_front (head_from sites names (words_of line)) found refl e
+  where
+    by_front : (front : Option (Head × List (List ℕ))) (found : Option Head) → head_from sites names (words_of line) ≡ front → found ≡ option_map (λ (read : Head × List (List ℕ)). read.0) front
+        → IfSome found (λ head. IsInRange (length sites) (length names) head.call)
+    by_front None found is e = subst (λ o. IfSome o (λ (head : Head). IsInRange (length sites) (length names) head.call)) (sym e) tt
+    by_front (Some read) found is e = subst (λ o. IfSome o (λ (head : Head). IsInRange (length sites) (length names) head.call)) (sym e) (head_front sites names (words_of line) read is).call
 
 -- what is read fits the sites and the atoms
 pub entry_fits : (sites names : List (List ℕ)) (line : List ℕ) (found : Option (ℕ × Entry)) → found ≡ entry_in sites names line → IfSome found (λ told. FitsEntry (length sites) (length names) told.1)

@@ -1,5 +1,5 @@
 -- Reading outcomes and entries.
-use Rattle.std.specs.Prelude.{◌≡◌, ◌↔◌, ℕ, ◌<◌, ◌^◌, List, [], ◌∷◌, length, codes, decimal, Option, Some, None, if◌then◌else◌}
+use Rattle.std.specs.Prelude.{◌≡◌, ◌↔◌, ℕ, ◌<◌, ◌^◌, List, [], ◌∷◌, length, codes, decimal, Option, Some, None, option_map, if◌then◌else◌}
 use Rattle.std.specs.Str.{bytes_eq}
 use Rattle.dcr_set.specs.Least.{least}
 use Rattle.dcr_journal.specs.declared.call.Call.{Call}
@@ -7,6 +7,7 @@ use Rattle.dcr_journal.specs.declared.call.Call.TheVariants.{Exec, Look, Enabled
 use Rattle.dcr_journal.specs.declared.call.Outcome.{Outcome}
 use Rattle.dcr_journal.specs.declared.call.Outcome.TheVariants.{Done, NotHere, Excluded, Condition, Milestone, Faulted, Marks, Can, AllDone, Waits}
 use Rattle.dcr_journal.specs.declared.call.Entry.{Entry}
+use Rattle.dcr_line.specs.declared.entry.Head.{Head}
 use Rattle.dcr_line.specs.Fits.{FitsEntry}
 use Rattle.dcr_line.specs.Known.{AreNames}
 use Rattle.dcr_line.specs.Line.{entry_text}
@@ -70,15 +71,29 @@ outcome_from names (Look i) words = look_outcome_from names words
 outcome_from names (Enabled i) words = enabled_outcome_from names words
 outcome_from names Accepting words = verdict_from names words
 
--- an entry with its place: place, session, seq, call and outcome
-unfoldable pub entry_from : List (List ℕ) → List (List ℕ) → List (List ℕ) → Front (ℕ × Entry)
-entry_from sites names words = do
+-- the head of an entry: place, session, seq and call
+unfoldable pub head_from : List (List ℕ) → List (List ℕ) → List (List ℕ) → Front Head
+head_from sites names words = do
   place ← number_from words
   session ← number_from place.1
   seq ← number_from session.1
   call ← call_from sites names seq.1
-  outcome ← outcome_from names call.0 call.1
-  Some ((place.0, record { session = session.0; seq = seq.0; call = call.0; outcome = outcome.0 }), outcome.1)
+  Some (record { place = place.0; session = session.0; seq = seq.0; call = call.0 }, call.1)
+
+-- the head that a line begins with, whatever is behind it
+abbrev pub head_in : List (List ℕ) → List (List ℕ) → List ℕ → Option Head
+head_in sites names line = option_map (λ read. read.0) (head_from sites names (words_of line))
+
+-- the entry with this head and this outcome
+abbrev pub with_head : Head → Outcome → Entry
+with_head head outcome = record { session = head.session; seq = head.seq; call = head.call; outcome = outcome }
+
+-- an entry with its place: its head, and an outcome of the kind of its call
+unfoldable pub entry_from : List (List ℕ) → List (List ℕ) → List (List ℕ) → Front (ℕ × Entry)
+entry_from sites names words = do
+  head ← head_from sites names words
+  outcome ← outcome_from names head.0.call head.1
+  Some ((head.0.place, with_head head.0 outcome.0), outcome.1)
 
 -- the place and the entry that a line tells
 unfoldable pub entry_in : List (List ℕ) → List (List ℕ) → List ℕ → Option (ℕ × Entry)

@@ -1,4 +1,5 @@
 ghost use Rattle.std.specs.Prelude.{◌≡◌, ◌≤◌, vec_len, map, IfOk};
+ghost use Rattle.dcr_line.specs.Known.{AreNames};
 
 use dcr_graph::{Graph, NameIndex};
 use dcr_proj::Cover;
@@ -29,6 +30,7 @@ impl<'n> Directory<'n> {
     ghost use Rattle.std.specs.Prelude.{◌≡◌, ◌≤◌, length, IfOk};
     ghost use Rattle.dcr_graph.specs.Names.{AreDistinct, number_of};
     ghost use Rattle.dcr_line.specs.DirectoryModel.{named};
+    ghost use Rattle.dcr_line.specs.Known.{AreNames};
     ghost use Rattle.dcr_line.specs.MarkLine.{from_low};
 
     /// Of a graph and a cover. `NoMemory` where memory could not be had.
@@ -42,6 +44,14 @@ impl<'n> Directory<'n> {
             sites,
             atoms,
         })
+    }
+
+    /// The names of the sites and those of the atoms are names and distinct.
+    pub(crate) fn names_are_known(&self)
+        ensures sites { AreNames self.now.sites }
+        ensures atoms { AreNames self.now.atoms }
+    {
+        let _graph = self.graph;
     }
 
     /// How many atoms there are.
@@ -85,6 +95,7 @@ impl<'n> Directory<'n> {
 // The names of the sites, in order.
 fn site_texts(alloc: Global, cover: &Cover) -> Result<Vec<&[u8]>, NoMemory>
     ensures names { IfOk result (λ texts. map (λ text. text.now) texts.items ≡ cover.now.names) }
+    ensures known { IfOk result (λ _. AreNames cover.now.names) }
     ensures most { IfOk result (λ texts. vec_len texts ≤ 2048) }
 {
     let mut texts = Vec::with_capacity(alloc, usize::from(cover.sites()))?;
@@ -97,6 +108,7 @@ fn site_texts(alloc: Global, cover: &Cover) -> Result<Vec<&[u8]>, NoMemory>
 // The names of the atoms, in order.
 fn atom_texts(alloc: Global, graph: &Graph) -> Result<Vec<&[u8]>, NoMemory>
     ensures names { IfOk result (λ texts. map (λ text. text.now) texts.items ≡ graph.now.names) }
+    ensures known { IfOk result (λ _. AreNames graph.now.names) }
     ensures most { IfOk result (λ texts. vec_len texts ≤ 2048) }
 {
     let mut texts = Vec::with_capacity(alloc, usize::from(graph.atoms()))?;

@@ -1,6 +1,8 @@
 ghost use Rattle.std.specs.Prelude.{◌≡◌, length, option_map, IfSome};
+ghost use Rattle.dcr_journal.specs.Run.{IsInRange};
 ghost use Rattle.dcr_line.specs.Fits.{FitsEntry};
-ghost use Rattle.dcr_line.specs.EntryLine.{number_in, number_from, exec_outcome_from, exec_outcome_after, look_outcome_from, enabled_outcome_from, verdict_from, verdict_after, outcome_from, entry_from, entry_in};
+ghost use Rattle.dcr_line.specs.Known.{AreNames};
+ghost use Rattle.dcr_line.specs.EntryLine.{number_in, number_from, exec_outcome_from, exec_outcome_after, look_outcome_from, enabled_outcome_from, verdict_from, verdict_after, outcome_from, head_from, head_in, entry_from, entry_in};
 
 use crate::call::{take_call, take_event};
 use crate::directory::Directory;
@@ -8,6 +10,39 @@ use crate::mark::{take_list, take_mark};
 use crate::pieces::Pieces;
 use dcr_journal::{Call, Entry, Outcome};
 use dcr_text::read_decimal;
+
+/// What the line of an entry begins with.
+#[derive(Clone, Copy, Debug, PartialEq, Eq)]
+pub struct Head {
+    /// Its place.
+    pub place: u32,
+    /// The session that made the call.
+    pub session: u32,
+    /// How many calls that session had made before.
+    pub seq: u32,
+    pub call: Call,
+}
+
+/// The head that a line begins with: the place, the session, how many calls the session had made before, and
+/// the call. What is behind it is not read. None exactly where the line begins with no head.
+pub fn read_head(line: &[u8], directory: &Directory<'_>) -> Option<Head>
+    ensures head { result ≡ head_in directory.now.sites directory.now.atoms line.now }
+    ensures in_range { IfSome result
+        (λ head. IsInRange (length directory.now.sites) (length directory.now.atoms) head.call) }
+    ensures sites { AreNames directory.now.sites }
+    ensures atoms { AreNames directory.now.atoms }
+{
+    directory.names_are_known();
+    head_of(line, directory)
+}
+
+// As `read_head`, by the words of the line.
+fn head_of(line: &[u8], directory: &Directory<'_>) -> Option<Head>
+    ensures { result ≡ head_in directory.now.sites directory.now.atoms line.now }
+{
+    let mut words = Pieces::of(line, b' ');
+    take_head(&mut words, directory)
+}
 
 /// The entry that a line tells, with its place: the place, the session, how many calls the session had made
 /// before, the call, and an outcome of its kind, with one space between each two words. The numbers are
@@ -39,20 +74,35 @@ fn take_entry(words: &mut Pieces<'_>, directory: &Directory<'_>) -> Option<(u32,
     ensures { option_map (λ told. (told, words.new)) result
         ≡ entry_from directory.now.sites directory.now.atoms words.old }
 {
+    let head = take_head(words, directory)?;
+    let outcome = take_outcome(&head.call, words, directory)?;
+    Some((
+        head.place,
+        Entry {
+            session: head.session,
+            seq: head.seq,
+            call: head.call,
+            outcome,
+        },
+    ))
+}
+
+// Takes the head that the words begin with.
+#[tactic(auto, unfolding(crate::specs::EntryLine::head_from))]
+fn take_head(words: &mut Pieces<'_>, directory: &Directory<'_>) -> Option<Head>
+    ensures { option_map (λ head. (head, words.new)) result
+        ≡ head_from directory.now.sites directory.now.atoms words.old }
+{
     let place = take_number(words)?;
     let session = take_number(words)?;
     let seq = take_number(words)?;
     let call = take_call(words, directory)?;
-    let outcome = take_outcome(&call, words, directory)?;
-    Some((
+    Some(Head {
         place,
-        Entry {
-            session,
-            seq,
-            call,
-            outcome,
-        },
-    ))
+        session,
+        seq,
+        call,
+    })
 }
 
 // Takes the number that the first word is.

@@ -12,6 +12,6 @@ mod write;
 
 pub use call::read_call;
 pub use directory::Directory;
-pub use entry::read_entry;
+pub use entry::{Head, read_entry, read_head};
 pub use mark::read_mark;
 pub use write::{write_call, write_entry, write_event, write_mark, write_marking};

@@ -28,7 +28,7 @@ pub(crate) fn put_number(n: u32, out: &mut Vec<u8>) -> Result<(), NoMemory>
     ensures kept { StartsWith out.old.items out.new.items }
 {
     decimal(u64::from(n), out)?;
-    put(b" ", out)
+    put_space(out)
 }
 
 /// Adds a word and a name behind it.
@@ -68,8 +68,27 @@ fn put_more(events: EventIter<'_>, graph: &Graph, out: &mut Vec<u8>) -> Result<(
     ensures kept { StartsWith out.old.items out.new.items }
 {
     for e in events {
-        put_named(b",", graph.name(e), out)?;
+        put_comma(out)?;
+        put(graph.name(e).text().as_bytes(), out)?;
     }
+    Ok(())
+}
+
+/// Adds a comma: one byte, without a copy of a slice.
+fn put_comma(out: &mut Vec<u8>) -> Result<(), NoMemory>
+    ensures added { OnOk result (out.new.items ≡ out.old.items ++ codes ",") }
+    ensures kept { StartsWith out.old.items out.new.items }
+{
+    out.push(b',')?;
+    Ok(())
+}
+
+/// Adds a space, as one byte too.
+pub(crate) fn put_space(out: &mut Vec<u8>) -> Result<(), NoMemory>
+    ensures added { OnOk result (out.new.items ≡ out.old.items ++ codes " ") }
+    ensures kept { StartsWith out.old.items out.new.items }
+{
+    out.push(b' ')?;
     Ok(())
 }
 

@@ -5,7 +5,7 @@ ghost use Rattle.dcr_line.specs.Line.{call_text, entry_text, mark_text, name_of}
 ghost use Rattle.dcr_line.specs.Fits.{FitsEntry};
 ghost use Rattle.dcr_line.specs.Grown.{StartsWith};
 
-use crate::put::{put, put_call, put_number, put_outcome, put_sets};
+use crate::put::{put_call, put_number, put_outcome, put_sets, put_space};
 use dcr_graph::{Graph, Marking, SiteMark};
 use dcr_journal::{Call, Entry};
 use dcr_proj::Cover;
@@ -124,6 +124,6 @@ fn put_entry(
     put_number(entry.session, out)?;
     put_number(entry.seq, out)?;
     put_call(&entry.call, graph, cover, out)?;
-    put(b" ", out)?;
+    put_space(out)?;
     put_outcome(&entry.outcome, graph, out)
 }

@@ -100,11 +100,9 @@ impl<'g> Plain<'g> {
         ensures enabled { result ≡ enabled_in (rules_of self.now.graph) events.now self.now.marking }
         ensures room { length result ≡ length self.now.graph.names }
     {
-        let atoms = self.graph.atoms();
-        let mut enabled = EventSet::new(atoms);
-        for number in 0..atoms {
-            let e = EventId(number);
-            if events.contains(e) && self.why(e).is_none() {
+        let mut enabled = EventSet::new(self.graph.atoms());
+        for e in events.iter() {
+            if self.why(e).is_none() {
                 enabled.insert(e);
             }
         }

@@ -1,4 +1,5 @@
 pub mod CoverLemmas
+pub mod MaskLemmas
 pub mod NetworkLemmas
 pub mod RowLemmas
 pub mod ProjectionLemmas

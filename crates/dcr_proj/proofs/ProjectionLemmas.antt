@@ -1,69 +1,94 @@
 -- What a projection's rows are, and that the projection of a graph fits its atoms.
-use Rattle.std.proofs.Common.{◌≡◌, ℕ, ◌<◌, Bool, true, false, ◌&&◌, ◌||◌, cond, List, length, get_or, Option, Some, None, is_some, inl, inr, refl, sym, ap, subst, ◌∙◌, arith}
+use Rattle.std.proofs.Common.{◌≡◌, ℕ, ◌<◌, Bool, true, false, ◌&&◌, ◌||◌, cond, List, [], length, get_or, Option, Some, None, is_some, inl, inr, refl, sym, ap, subst, ◌∙◌, arith}
 use Rattle.std.proofs.lemmas.Bool.{false≢true, cases_lt}
 use Rattle.std.proofs.lemmas.List.{get_or_past}
+use Rattle.std.proofs.lemmas.List.Elements.{All-get_or}
 use Rattle.dcr_set.specs.EventSet.{Set, has, those}
 use Rattle.dcr_set.proofs.LeastLemmas.{least-ext}
 use Rattle.dcr_set.proofs.SetLemmas.{has-those, has_past, length-those, those-ext}
+use Rattle.dcr_graph.specs.Rows.{row}
 use Rattle.dcr_graph.specs.Rules.{Rules}
 use Rattle.dcr_graph.specs.Projection.{leads_to, tracks_included, tracks_pending, in_alphabet, is_local_target, local_rules, HasRoom}
 use Rattle.dcr_graph.proofs.BoolLemmas.{and_true}
 use Rattle.dcr_graph.specs.declared.kind.Kind.{Kind}
 use Rattle.dcr_graph.specs.declared.kind.Kind.TheVariants.{Response, Include, Exclude, Cancel}
 use Rattle.dcr_graph.specs.declared.marking.Marking.{Marking}
-use Rattle.dcr_proj.specs.Rows.{guards_of, effects_of, effects_within, rows_where, guard_rows, effect_rows}
+use Rattle.dcr_proj.specs.CoverValue.{atoms_of}
+use Rattle.dcr_proj.specs.Masks.{AreMasks}
+use Rattle.dcr_proj.specs.Rows.{GuardMasks, EffectMasks, guards_of, effects_of, effects_within, rows_where, guard_rows, effect_rows, guard_row, effect_row, guard_masks, effect_masks, AreGuards, AreEffects}
+use Rattle.dcr_proj.specs.declared.rows.GuardRow.{GuardRow}
+use Rattle.dcr_proj.specs.declared.rows.EffectRow.{EffectRow}
 use Rattle.dcr_proj.specs.Alphabet.{alphabet_within}
 use Rattle.dcr_proj.specs.Local.{Local, projection_of, cut_to}
-use Rattle.dcr_proj.specs.ProjectionModel.{IsLocal, GuardsFit, EffectsFit}
-use Rattle.dcr_proj.specs.declared.rows.Guards.{Guards}
-use Rattle.dcr_proj.specs.declared.rows.Effects.{Effects}
+use Rattle.dcr_proj.specs.ProjectionModel.{local_of, IsLocal, FitsLocal, GuardsFit, EffectsFit}
+use Rattle.dcr_proj.specs.declared.projection.Projection.TheInside.{Inside}
+use Rattle.dcr_proj.proofs.MaskLemmas.{read_row}
 use Rattle.dcr_proj.proofs.RowLemmas.{length-rows_where, row_at, rows-ext}
 
 -- what is in a set is below its room
 pub below_room : (s : Set) (e : ℕ) → has s e ≡ true → e < length s
 below_room s e member = elim (cases_lt e (length s)) [ inl below ↦ below | inr past ↦ absurd (false≢true (sym (has_past s e past) ∙ member)) ]
 
-module _ (P : Local) (local : IsLocal P) (e : ℕ) where
-  pub guards_missing : has P.own e ≡ true → get_or P.guards e None ≡ None → ⊥
-  guards_missing owned none = false≢true (sym (subst (GuardsFit (length P.own) P.own e) none (local.guards e (below_room P.own e owned))) ∙ owned)
+-- the row of an event that passes stands at its place
+pub row_there : {A : Type 0} (n : ℕ) (test : ℕ → Bool) (row_of : ℕ → A) (e : ℕ) → e < n → test e ≡ true → get_or (rows_where n test row_of) e None ≡ Some (row_of e)
+row_there n test row_of e below passes = row_at n test row_of e below ∙ ap (λ b. cond b (Some (row_of e)) None) passes
 
-  pub guards_fit : (row : Guards) → has P.own e ≡ true → get_or P.guards e None ≡ Some row → GuardsFit (length P.own) P.own e (Some row)
-  guards_fit row owned there = subst (GuardsFit (length P.own) P.own e) there (local.guards e (below_room P.own e owned))
+-- masks that lie under numbers are over the same atoms
+pub mask_room : (masks : List Set) (k : ℕ) → AreMasks masks → k < length masks → length (row masks k) ≡ atoms_of masks
+mask_room masks k are within = All-get_or (λ mask. length mask ≡ atoms_of masks) masks k [] within are.rooms
 
-  pub effects_missing : has P.alphabet e ≡ true → get_or P.effects e None ≡ None → ⊥
-  effects_missing heard none = false≢true (sym (subst (EffectsFit (length P.own) P.alphabet e) none (local.effects e (let room = local.alphabet in let below = below_room P.alphabet e heard in omega arith))) ∙ heard)
+-- what the fields stand for has a place for each atom
+module _ (p : Inside) (fits : FitsLocal p) where
+  room_at : (k : ℕ) → k < length p.masks.items → length (row p.masks.items k) ≡ length p.own
+  room_at k within = mask_room p.masks.items k fits.masks within ∙ fits.rooms
 
-  pub effects_fit : (row : Effects) → has P.alphabet e ≡ true → get_or P.effects e None ≡ Some row → EffectsFit (length P.own) P.alphabet e (Some row)
-  effects_fit row heard there = subst (EffectsFit (length P.own) P.alphabet e) there (local.effects e (let room = local.alphabet in let below = below_room P.alphabet e heard in omega arith))
+  guards_at : (e : ℕ) (b : Bool) → e < length p.own → has p.own e ≡ b
+      → GuardsFit (length p.own) p.own e (cond b (Some (guard_masks p.masks.items (guard_row p.guards.items e))) None)
+  guards_at e true below is = let at = fits.guards e below in (room_at _ at.condition, room_at _ at.milestone)
+  guards_at e false below is = is
 
--- the projection of a graph to a set over its atoms
-module _ (G : Rules) (S : Set) (room : length S ≡ G.atoms) where
-  guard_row_fits : (e : ℕ) (b : Bool) → has S e ≡ b → GuardsFit G.atoms S e (cond b (Some (guards_of G e)) None)
-  guard_row_fits e true is = (length-those G.atoms _, length-those G.atoms _)
-  guard_row_fits e false is = is
+  effects_at : (e : ℕ) (b : Bool) → e < length p.own → has p.alphabet e ≡ b
+      → EffectsFit (length p.own) p.alphabet e (cond b (Some (effect_masks p.masks.items (effect_row p.effects.items e))) None)
+  effects_at e true below is = let at = fits.effects e below in (room_at _ at.response, room_at _ at.include, room_at _ at.exclude, room_at _ at.cancel)
+  effects_at e false below is = is
 
-  effect_row_fits : (A : Set) (e : ℕ) (b : Bool) → has A e ≡ b → EffectsFit G.atoms A e (cond b (Some (effects_of G S e)) None)
-  effect_row_fits A e true is = (length-those G.atoms _, length-those G.atoms _, length-those G.atoms _, length-those G.atoms _)
-  effect_row_fits A e false is = is
-
-  pub projection_fits : IsLocal (projection_of G S)
-  projection_fits = record {
-    tracked_in = length-those G.atoms _ ∙ sym room;
-    tracked_ex = length-those G.atoms _ ∙ sym room;
-    tracked_re = length-those G.atoms _ ∙ sym room;
-    alphabet = length-those G.atoms _ ∙ sym room;
-    as_many_guards = length-rows_where G.atoms (has S) (guards_of G) ∙ sym room;
-    as_many_effects = length-rows_where G.atoms (in_alphabet G S) (effects_of G S) ∙ sym room;
+  pub is_local : IsLocal (local_of p)
+  is_local = record {
+    tracked_in = fits.tracked_in;
+    tracked_ex = fits.tracked_ex;
+    tracked_re = fits.tracked_re;
+    alphabet = fits.alphabet;
+    as_many_guards = length-rows_where (length p.own) (has p.own) (λ e. guard_masks p.masks.items (guard_row p.guards.items e));
+    as_many_effects = length-rows_where (length p.own) (has p.alphabet) (λ e. effect_masks p.masks.items (effect_row p.effects.items e));
     guards = λ e below.
-        let atom : e < G.atoms = omega arith in
-        subst (λ n. GuardsFit n S e (get_or (guard_rows G S) e None)) (sym room)
-        (subst (GuardsFit G.atoms S e) (sym (row_at G.atoms (has S) (guards_of G) e atom)) (guard_row_fits e (has S e) refl));
+        subst (GuardsFit (length p.own) p.own e) (sym (row_at (length p.own) (has p.own) (λ k. guard_masks p.masks.items (guard_row p.guards.items k)) e below))
+        (guards_at e (has p.own e) below refl);
     effects = λ e below.
-        let atom : e < G.atoms = omega arith in let A = those G.atoms (in_alphabet G S) in
-        subst (λ n. EffectsFit n A e (get_or (effect_rows G S) e None)) (sym room)
-        (subst (EffectsFit G.atoms A e) (sym (row_at G.atoms (in_alphabet G S) (effects_of G S) e atom))
-        (effect_row_fits A e (in_alphabet G S e) (has-those G.atoms (in_alphabet G S) e atom)));
+        subst (EffectsFit (length p.own) p.alphabet e) (sym (row_at (length p.own) (has p.alphabet) (λ k. effect_masks p.masks.items (effect_row p.effects.items k)) e below))
+        (effects_at e (has p.alphabet e) below refl);
   }
+
+-- what was read at the place of an event: there are masks under its numbers, and they are its row
+module _ (p : Inside) (fits : FitsLocal p) (P : Local) (view : local_of p ≡ P) (e i : ℕ) (same : i ≡ e) where
+  pub guards_read : (g : GuardRow) → has P.own e ≡ true → g ≡ get_or p.guards.items i g → AreGuards p.masks.items g × (get_or P.guards e None ≡ Some (guard_masks p.masks.items g))
+  guards_read g owned read =
+      let member : has p.own e ≡ true = ap (λ Q. has Q.own e) view ∙ owned in
+      let below = below_room p.own e member in
+      let found : g ≡ guard_row p.guards.items e = read_row p.guards.items i e g (guard_row [] 0) same (omega (arith, fits.as_many_guards)) read in (
+        subst (AreGuards p.masks.items) (sym found) (fits.guards e below),
+        ap (λ Q. get_or Q.guards e None) (sym view) ∙ row_there (length p.own) (has p.own) (λ k. guard_masks p.masks.items (guard_row p.guards.items k)) e below member
+            ∙ ap (λ r. Some (guard_masks p.masks.items r)) (sym found),
+      )
+
+  pub effects_read : (f : EffectRow) → has P.alphabet e ≡ true → f ≡ get_or p.effects.items i f → AreEffects p.masks.items f × (get_or P.effects e None ≡ Some (effect_masks p.masks.items f))
+  effects_read f heard read =
+      let member : has p.alphabet e ≡ true = ap (λ Q. has Q.alphabet e) view ∙ heard in
+      let below : e < length p.own = (let within = below_room p.alphabet e member in omega (arith, fits.alphabet)) in
+      let found : f ≡ effect_row p.effects.items e = read_row p.effects.items i e f (effect_row [] 0) same (omega (arith, fits.as_many_effects)) read in (
+        subst (AreEffects p.masks.items) (sym found) (fits.effects e below),
+        ap (λ Q. get_or Q.effects e None) (sym view) ∙ row_there (length p.own) (has p.alphabet) (λ k. effect_masks p.masks.items (effect_row p.effects.items k)) e below member
+            ∙ ap (λ r. Some (effect_masks p.masks.items r)) (sym found),
+      )
 
 -- the alphabet and the effects told by tests and by the sets of what passes
 tracked_in_set : Rules → Set → Set
@@ -94,21 +119,21 @@ effects_are G S e =
     same_effects _ _ _ _ _ _ _ _ (pending Response) (included Include) (included Exclude) (pending Cancel)
   where
     same_effects : (r i x c r' i' x' c' : Set) → r ≡ r' → i ≡ i' → x ≡ x' → c ≡ c'
-        → (let f : Effects = record { response = r; include = i; exclude = x; cancel = c } in f) ≡ record { response = r'; include = i'; exclude = x'; cancel = c' }
+        → (let f : EffectMasks = record { response = r; include = i; exclude = x; cancel = c } in f) ≡ record { response = r'; include = i'; exclude = x'; cancel = c' }
     same_effects r i x c r' i' x' c' p q s t =
-        ap (λ y. let f : Effects = record { response = y; include = i; exclude = x; cancel = c } in f) p
-        ∙ ap (λ y. let f : Effects = record { response = r'; include = y; exclude = x; cancel = c } in f) q
-        ∙ ap (λ y. let f : Effects = record { response = r'; include = i'; exclude = y; cancel = c } in f) s
-        ∙ ap (λ y. let f : Effects = record { response = r'; include = i'; exclude = x'; cancel = y } in f) t
+        ap (λ y. let f : EffectMasks = record { response = y; include = i; exclude = x; cancel = c } in f) p
+        ∙ ap (λ y. let f : EffectMasks = record { response = r'; include = y; exclude = x; cancel = c } in f) q
+        ∙ ap (λ y. let f : EffectMasks = record { response = r'; include = i'; exclude = y; cancel = c } in f) s
+        ∙ ap (λ y. let f : EffectMasks = record { response = r'; include = i'; exclude = x'; cancel = y } in f) t
 
 pub effect_rows_are : (G : Rules) (S : Set)
     → rows_where G.atoms (has (those G.atoms (in_alphabet G S))) (effects_within G (those G.atoms (tracks_included G S)) (those G.atoms (tracks_pending G S))) ≡ effect_rows G S
 effect_rows_are G S = rows-ext G.atoms (has (those G.atoms (in_alphabet G S))) (in_alphabet G S)
     (effects_within G (those G.atoms (tracks_included G S)) (those G.atoms (tracks_pending G S))) (effects_of G S)
-    (λ e below. has-those G.atoms (in_alphabet G S) e below) (λ e _. effects_are G S e)
+    (λ e below. has-those G.atoms (in_alphabet G S) e below) (λ e _ _. effects_are G S e)
 
 -- parts that are those of a projection make it
-pub same_local : (S tin tex tre a tin' tex' tre' a' : Set) (g g' : List (Option Guards)) (f f' : List (Option Effects))
+pub same_local : (S tin tex tre a tin' tex' tre' a' : Set) (g g' : List (Option GuardMasks)) (f f' : List (Option EffectMasks))
     → tin ≡ tin' → tex ≡ tex' → tre ≡ tre' → a ≡ a' → g ≡ g' → f ≡ f'
     → (let P : Local = record { own = S; tracked_in = tin; tracked_ex = tex; tracked_re = tre; alphabet = a; guards = g; effects = f } in P)
     ≡ record { own = S; tracked_in = tin'; tracked_ex = tex'; tracked_re = tre'; alphabet = a'; guards = g'; effects = f' }
@@ -126,7 +151,7 @@ cut_rooms P M h = (length-those _ _ ∙ h.executed, length-those _ _ ∙ h.pendi
 
 -- what the rows of a projection of a graph are
 module _ (P : Local) (G : Rules) (S : Set) (same : P ≡ projection_of G S) (e : ℕ) where
-  pub kept_guards : (row : Guards) → has P.own e ≡ true → get_or P.guards e None ≡ Some row → row ≡ guards_of G e
+  pub kept_guards : (row : GuardMasks) → has P.own e ≡ true → get_or P.guards e None ≡ Some row → row ≡ guards_of G e
   kept_guards row owned there = elim (cases_lt e G.atoms) [
     | inl atom ↦
         let found : Some row ≡ Some (guards_of G e) =
@@ -139,7 +164,7 @@ module _ (P : Local) (G : Rules) (S : Set) (same : P ≡ projection_of G S) (e :
         absurd (false≢true (ap is_some missing))
   ]
 
-  pub kept_effects : (row : Effects) → has P.alphabet e ≡ true → get_or P.effects e None ≡ Some row → row ≡ effects_of G S e
+  pub kept_effects : (row : EffectMasks) → has P.alphabet e ≡ true → get_or P.effects e None ≡ Some row → row ≡ effects_of G S e
   kept_effects row heard there =
       let atom : e < G.atoms = (let within = below_room P.alphabet e heard in let n = ap (λ Q. length Q.alphabet) same ∙ length-those G.atoms (in_alphabet G S) in omega arith) in
       let hears : in_alphabet G S e ≡ true = sym (has-those G.atoms (in_alphabet G S) e atom) ∙ ap (λ Q. has Q.alphabet e) (sym same) ∙ heard in

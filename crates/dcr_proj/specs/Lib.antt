@@ -2,6 +2,7 @@ pub mod CoverValue
 pub mod CoverModel
 pub mod NetworkValue
 pub mod NetworkModel
+pub mod Masks
 pub mod Rows
 pub mod Alphabet
 pub mod Local

@@ -5,9 +5,7 @@ use Rattle.dcr_graph.specs.Rules.{Rules}
 use Rattle.dcr_graph.specs.Projection.{tracks_included, tracks_executed, tracks_pending, in_alphabet}
 use Rattle.dcr_graph.specs.declared.marking.Marking.{Marking}
 use Rattle.dcr_graph.specs.declared.marking.SiteMark.{SiteMark}
-use Rattle.dcr_proj.specs.Rows.{guard_rows, effect_rows}
-use Rattle.dcr_proj.specs.declared.rows.Guards.{Guards}
-use Rattle.dcr_proj.specs.declared.rows.Effects.{Effects}
+use Rattle.dcr_proj.specs.Rows.{GuardMasks, EffectMasks, guard_rows, effect_rows}
 
 pub record Local : Type 0 where
   pub own : Set
@@ -16,8 +14,8 @@ pub record Local : Type 0 where
   pub tracked_re : Set
   pub alphabet : Set
   -- for each atom: what guards it where it is owned, what it does where it is in the alphabet
-  pub guards : List (Option Guards)
-  pub effects : List (Option Effects)
+  pub guards : List (Option GuardMasks)
+  pub effects : List (Option EffectMasks)
 
 -- the projection of the rules G to the owned set S
 abbrev pub projection_of : Rules → Set → Local

@@ -1,25 +1,39 @@
--- The rules that a site keeps of one event.
-use Rattle.std.specs.Prelude.{ℕ, Bool, true, false, ◌&&◌, List, map, Option, Some, None, option_map, if◌then◌else◌}
+-- The rules that a site keeps of one event, as masks; and the numbers under which the masks lie.
+use Rattle.std.specs.Prelude.{◌≡◌, ℕ, ◌<◌, Bool, true, false, ◌&&◌, List, length, map, Option, Some, None, slice_index_or, if◌then◌else◌}
 use Rattle.std.specs.List.{range_with_len}
-use Rattle.std.specs.declared.alloc.Global.{Global}
-use Rattle.std.specs.declared.boxed.Box.{Box}
+use Rattle.std.specs.Option.{option_copied}
 use Rattle.dcr_set.specs.EventSet.{Set, has, those}
+use Rattle.dcr_graph.specs.Rows.{row}
 use Rattle.dcr_graph.specs.Rules.{Rules}
 use Rattle.dcr_graph.specs.Projection.{in_alphabet, local_rules}
 use Rattle.dcr_graph.specs.declared.kind.Kind.{Kind}
 use Rattle.dcr_graph.specs.declared.kind.Kind.TheVariants.{Condition, Response, Milestone, Include, Exclude, Cancel}
+use Rattle.dcr_proj.specs.Masks.{or_nothing}
 use Rattle.dcr_proj.specs.declared.rows.Guards.{Guards}
 use Rattle.dcr_proj.specs.declared.rows.Effects.{Effects}
+use Rattle.dcr_proj.specs.declared.rows.GuardRow.{GuardRow}
+use Rattle.dcr_proj.specs.declared.rows.EffectRow.{EffectRow}
 
 -- what guards an owned event: its condition events and its milestone events
-abbrev pub guards_of : Rules → ℕ → Guards
+pub record GuardMasks : Type 0 where
+  pub condition : Set
+  pub milestone : Set
+
+-- what an event of the alphabet does, cut to the local relations
+pub record EffectMasks : Type 0 where
+  pub response : Set
+  pub include : Set
+  pub exclude : Set
+  pub cancel : Set
+
+abbrev pub guards_of : Rules → ℕ → GuardMasks
 guards_of G e = record {
   condition = those G.atoms (λ c. G.related Condition c e);
   milestone = those G.atoms (λ m. G.related Milestone m e);
 }
 
--- what an event of the alphabet does, by the local relations
-abbrev pub effects_of : Rules → Set → ℕ → Effects
+-- by the local relations
+abbrev pub effects_of : Rules → Set → ℕ → EffectMasks
 effects_of G S e = record {
   response = those G.atoms (λ b. (local_rules G S).related Response e b);
   include = those G.atoms (λ b. (local_rules G S).related Include e b);
@@ -28,7 +42,7 @@ effects_of G S e = record {
 }
 
 -- the same, told by the sets of those atoms whose included and pending marks are tracked
-abbrev pub effects_within : Rules → Set → Set → ℕ → Effects
+abbrev pub effects_within : Rules → Set → Set → ℕ → EffectMasks
 effects_within G tracked_in tracked_re e = record {
   response = those G.atoms (λ b. G.related Response e b && has tracked_re b);
   include = those G.atoms (λ b. G.related Include e b && has tracked_in b);
@@ -53,12 +67,62 @@ row_where test row_of e = if test e then Some (row_of e) else None
 abbrev pub rows_where : {A : Type 0} → ℕ → (ℕ → Bool) → (ℕ → A) → List (Option A)
 rows_where n test row_of = map (row_where test row_of) (range_with_len 0 n)
 
-abbrev pub guard_rows : Rules → Set → List (Option Guards)
+abbrev pub guard_rows : Rules → Set → List (Option GuardMasks)
 guard_rows G S = rows_where G.atoms (has S) (guards_of G)
 
-abbrev pub effect_rows : Rules → Set → List (Option Effects)
+abbrev pub effect_rows : Rules → Set → List (Option EffectMasks)
 effect_rows G S = rows_where G.atoms (in_alphabet G S) (effects_of G S)
 
--- rows without where they lie in memory
-abbrev pub unboxed : {A : Type 0} → List (Option (Box A Global)) → List (Option A)
-unboxed rows = map (λ row. option_map (λ b. b.value) row) rows
+-- the masks that are lent of an event, where each set has room n
+abbrev pub lent_guards : ℕ → Guards → GuardMasks
+lent_guards n g = record {
+  condition = or_nothing n (option_copied g.condition);
+  milestone = or_nothing n (option_copied g.milestone);
+}
+
+abbrev pub lent_effects : ℕ → Effects → EffectMasks
+lent_effects n f = record {
+  response = or_nothing n (option_copied f.response);
+  include = or_nothing n (option_copied f.include);
+  exclude = or_nothing n (option_copied f.exclude);
+  cancel = or_nothing n (option_copied f.cancel);
+}
+
+-- the numbers that stand for an atom, each of them 0 past the last
+abbrev pub guard_row : List GuardRow → ℕ → GuardRow
+guard_row rows e = slice_index_or rows e (record { condition = 0; milestone = 0 })
+
+abbrev pub effect_row : List EffectRow → ℕ → EffectRow
+effect_row rows e = slice_index_or rows e (record { response = 0; include = 0; exclude = 0; cancel = 0 })
+
+-- the masks under these numbers
+abbrev pub guard_masks : List Set → GuardRow → GuardMasks
+guard_masks masks g = record { condition = row masks g.condition; milestone = row masks g.milestone }
+
+abbrev pub effect_masks : List Set → EffectRow → EffectMasks
+effect_masks masks f = record {
+  response = row masks f.response;
+  include = row masks f.include;
+  exclude = row masks f.exclude;
+  cancel = row masks f.cancel;
+}
+
+-- there are masks under these numbers
+pub record AreGuards (masks : List Set) (g : GuardRow) : Type 0 where
+  pub condition : g.condition < length masks
+  pub milestone : g.milestone < length masks
+
+pub record AreEffects (masks : List Set) (f : EffectRow) : Type 0 where
+  pub response : f.response < length masks
+  pub include : f.include < length masks
+  pub exclude : f.exclude < length masks
+  pub cancel : f.cancel < length masks
+
+-- the numbers of an atom are those of masks, and of its own where it passes
+pub record IsGuardRow (test : ℕ → Bool) (masks_of : ℕ → GuardMasks) (masks : List Set) (e : ℕ) (g : GuardRow) : Type 0 where
+  pub within : AreGuards masks g
+  pub told : test e ≡ true → guard_masks masks g ≡ masks_of e
+
+pub record IsEffectRow (test : ℕ → Bool) (masks_of : ℕ → EffectMasks) (masks : List Set) (e : ℕ) (f : EffectRow) : Type 0 where
+  pub within : AreEffects masks f
+  pub told : test e ≡ true → effect_masks masks f ≡ masks_of e

@@ -2,6 +2,7 @@
 #![tactic(auto)]
 
 mod cover;
+mod masks;
 mod network;
 mod projection;
 mod rows;

@@ -4,7 +4,8 @@ ghost use Rattle.dcr_graph.specs.GraphValue.{rules_of};
 ghost use Rattle.dcr_proj.specs.Local.{projection_of};
 ghost use Rattle.dcr_proj.specs.Alphabet.{alphabet_within};
 
-use crate::rows::{Effects, Guards};
+use crate::masks::{Masks, lend_mask, mask_at};
+use crate::rows::{EffectRow, Effects, GuardRow, Guards};
 use dcr_graph::{Graph, Kind, Marking, SiteMark};
 use dcr_set::{EventId, EventSet, NoMemory};
 use std::alloc::Global;
@@ -12,7 +13,8 @@ use std::marker::Model;
 
 /// What one site keeps of a graph: its own events, the events whose marks it tracks, its alphabet, and of
 /// the relations those alone that its decisions and its marks need. It is kept as masks: two for each
-/// owned event, four for each event of the alphabet. Contracts see it as `Local`.
+/// owned event, four for each event of the alphabet. One that has no event, or one alone, as most have where
+/// there are many sites, is kept once. Contracts see it as `Local`.
 #[derive(Drop)]
 pub struct Projection {
     own: EventSet,
@@ -20,8 +22,10 @@ pub struct Projection {
     tracked_ex: EventSet,
     tracked_re: EventSet,
     alphabet: EventSet,
-    guards: Vec<Option<Box<Guards>>>,
-    effects: Vec<Option<Box<Effects>>>,
+    // Each mask lies under its number. At the place of each atom stand the numbers of its masks.
+    masks: Vec<EventSet>,
+    guards: Vec<GuardRow>,
+    effects: Vec<EffectRow>,
 }
 
 impl Model for Projection {
@@ -37,11 +41,11 @@ impl Model for Projection {
 }
 
 impl Projection {
-    ghost use Rattle.std.specs.Prelude.{◌≡◌, ◌<◌, ◌≤◌, List, Bool, true, false, length, IfOk, Some, slice_index_or, None};
+    ghost use Rattle.std.specs.Prelude.{◌≡◌, ◌<◌, ◌≤◌, List, Bool, true, false, length, IfOk, IfSome, Some, slice_index_or, None};
     ghost use Rattle.dcr_set.specs.EventSet.{has};
     ghost use Rattle.dcr_graph.specs.Rules.{Rules};
     ghost use Rattle.dcr_graph.specs.Projection.{HasRoom, local_rules};
-    ghost use Rattle.dcr_proj.specs.Rows.{is_guard};
+    ghost use Rattle.dcr_proj.specs.Rows.{is_guard, lent_guards, lent_effects};
     ghost use Rattle.dcr_proj.specs.Local.{cut_to};
     ghost use Rattle.dcr_proj.specs.ProjectionModel.{IsLocal};
 
@@ -85,30 +89,34 @@ impl Projection {
     }
 
     /// What guards an owned event.
-    pub fn guards(&self, e: EventId) -> &Guards
+    pub fn guards(&self, e: EventId) -> Guards<'_>
         requires { has self.now.own e ≡ true }
-        ensures row { slice_index_or self.now.guards e None ≡ Some result.now }
-        ensures condition { length result.now.condition ≡ length self.now.own }
-        ensures milestone { length result.now.milestone ≡ length self.now.own }
+        ensures row { slice_index_or self.now.guards e None ≡ Some (lent_guards (length self.now.own) result) }
+        ensures condition { IfSome result.condition (λ mask. length mask.now ≡ length self.now.own) }
+        ensures milestone { IfSome result.milestone (λ mask. length mask.now ≡ length self.now.own) }
     {
-        match &self.guards[usize::from(e.0)] {
-            Some(row) => row,
-            None => unreachable!(),
+        let row = self.guards[usize::from(e.0)];
+        Guards {
+            condition: lend_mask(&self.masks, row.condition),
+            milestone: lend_mask(&self.masks, row.milestone),
         }
     }
 
     /// What an event of the alphabet does to the marks that are tracked.
-    pub fn effects(&self, e: EventId) -> &Effects
+    pub fn effects(&self, e: EventId) -> Effects<'_>
         requires { has self.now.alphabet e ≡ true }
-        ensures row { slice_index_or self.now.effects e None ≡ Some result.now }
-        ensures response { length result.now.response ≡ length self.now.own }
-        ensures include { length result.now.include ≡ length self.now.own }
-        ensures exclude { length result.now.exclude ≡ length self.now.own }
-        ensures cancel { length result.now.cancel ≡ length self.now.own }
+        ensures row { slice_index_or self.now.effects e None ≡ Some (lent_effects (length self.now.own) result) }
+        ensures response { IfSome result.response (λ mask. length mask.now ≡ length self.now.own) }
+        ensures include { IfSome result.include (λ mask. length mask.now ≡ length self.now.own) }
+        ensures exclude { IfSome result.exclude (λ mask. length mask.now ≡ length self.now.own) }
+        ensures cancel { IfSome result.cancel (λ mask. length mask.now ≡ length self.now.own) }
     {
-        match &self.effects[usize::from(e.0)] {
-            Some(row) => row,
-            None => unreachable!(),
+        let row = self.effects[usize::from(e.0)];
+        Effects {
+            response: lend_mask(&self.masks, row.response),
+            include: lend_mask(&self.masks, row.include),
+            exclude: lend_mask(&self.masks, row.exclude),
+            cancel: lend_mask(&self.masks, row.cancel),
         }
     }
 
@@ -120,10 +128,10 @@ impl Projection {
             → result.now ≡ those G.atoms (λ a. (local_rules G S).related kind a e) }
         ensures room { length result.now ≡ length self.now.own }
     {
-        let guards = self.guards(e);
+        let row = self.guards[usize::from(e.0)];
         match kind {
-            Kind::Condition => &guards.condition,
-            Kind::Milestone => &guards.milestone,
+            Kind::Condition => mask_at(&self.masks, row.condition),
+            Kind::Milestone => mask_at(&self.masks, row.milestone),
             _ => unreachable!(),
         }
     }
@@ -137,12 +145,12 @@ impl Projection {
             → result.now ≡ those G.atoms (λ b. (local_rules G S).related kind e b) }
         ensures room { length result.now ≡ length self.now.own }
     {
-        let effects = self.effects(e);
+        let row = self.effects[usize::from(e.0)];
         match kind {
-            Kind::Response => &effects.response,
-            Kind::Include => &effects.include,
-            Kind::Exclude => &effects.exclude,
-            Kind::Cancel => &effects.cancel,
+            Kind::Response => mask_at(&self.masks, row.response),
+            Kind::Include => mask_at(&self.masks, row.include),
+            Kind::Exclude => mask_at(&self.masks, row.exclude),
+            Kind::Cancel => mask_at(&self.masks, row.cancel),
             _ => unreachable!(),
         }
     }
@@ -172,14 +180,23 @@ pub fn project(alloc: Global, graph: &Graph, own: &EventSet) -> Result<Projectio
     let tracked_re = own.joined(&milestones);
     let tracked_in = own.joined(&conditions.joined(&milestones));
     let alphabet = alphabet_of(graph, &tracked_in, &tracked_re);
-    let guards = Guards::of_each(alloc, graph, own)?;
-    let effects = Effects::of_each(alloc, graph, &tracked_in, &tracked_re, &alphabet)?;
+    let mut masks = Masks::new(alloc, graph.atoms())?;
+    let guards = GuardRow::of_each(alloc, graph, own, &mut masks)?;
+    let effects = EffectRow::of_each(
+        alloc,
+        graph,
+        &tracked_in,
+        &tracked_re,
+        &alphabet,
+        &mut masks,
+    )?;
     Ok(Projection {
         own: own.copy(),
         tracked_in,
         tracked_ex,
         tracked_re,
         alphabet,
+        masks: masks.into_sets(),
         guards,
         effects,
     })

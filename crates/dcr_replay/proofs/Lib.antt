@@ -4,6 +4,7 @@ pub mod EndLemmas
 pub mod CountLemmas
 pub mod SiteLineLemmas
 pub mod CheckLemmas
+mod AnsweredLemmas
 mod LawLemmasLines
 mod LawLemmasTexts
 mod LawLemmasHead

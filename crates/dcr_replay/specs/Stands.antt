@@ -1,5 +1,5 @@
 -- What a run under check keeps of the entries that were read.
-use Rattle.std.specs.Prelude.{◌≡◌, ℕ, ◌<◌, ◌≤◌, List, [], ◌∷◌, ◌++◌, length, map, slice_index_or, Option, Some, None, Ok, Err}
+use Rattle.std.specs.Prelude.{◌≡◌, ℕ, ◌<◌, ◌≤◌, false, List, [], ◌∷◌, ◌++◌, length, map, slice_index_or, Option, Some, None, Ok, Err}
 use Rattle.std.specs.List.{All}
 use Rattle.dcr_graph.specs.GraphValue.{rules_of}
 use Rattle.dcr_proj.specs.CoverValue.{IsCover}
@@ -32,6 +32,13 @@ pub record Stands (S : Setting) (J : List Entry) (run : Run) : Type 0 where
   pub counted : run.len ≡ length J
   pub made : (session : ℕ) → session < 1024 → slice_index_or run.made.items session 0 ≡ made_by session J
   pub faulted : run.faulted ≡ has_fault J
+
+-- a further entry may come, and with these numbers
+pub record MayCome (run : Run) (session seq : ℕ) : Type 0 where
+  pub few : run.len < 200000
+  pub sound : run.faulted ≡ false
+  pub below : session < 1024
+  pub made : seq ≡ slice_index_or run.made.items session 0
 
 -- how a run takes a line: it has the entry that the line tells, or the line is wrong by the kind
 abbrev pub Takes : Setting → List Entry → Line → Option Wrong → Run → Type 0

@@ -1,16 +1,19 @@
 // The lines of entries, checked one after the other.
-ghost use Rattle.std.specs.Prelude.{◌≡◌, ◌+◌, ◌<◌, ◌≤◌, ◌&&◌, [], ◌∷◌, ◌++◌, List, length, IfOk, IfSome, Bool, false, slice_index_or, None, Some, Ok};
+ghost use Rattle.std.specs.Prelude.{◌≡◌, ◌+◌, ◌<◌, ◌≤◌, ◌||◌, nat_le, [], ◌∷◌, ◌++◌, List, length, IfOk, IfSome, Bool, false, slice_index_or, None, Some, Ok};
 ghost use Rattle.std.specs.List.{All};
+ghost use Rattle.std.specs.Str.{bytes_eq};
 ghost use Rattle.dcr_graph.specs.GraphValue.{rules_of};
 ghost use Rattle.dcr_graph.specs.Projection.{HasRoom};
-ghost use Rattle.dcr_journal.specs.Run.{stepped_by};
+ghost use Rattle.dcr_journal.specs.Run.{IsInRange, stepped_by};
 ghost use Rattle.dcr_journal.specs.declared.call.Entry.{Entry};
 ghost use Rattle.dcr_line.specs.DirectoryModel.{named};
+ghost use Rattle.dcr_line.specs.Known.{AreNames};
 ghost use Rattle.dcr_line.specs.Fits.{FitsEntry};
+ghost use Rattle.dcr_line.specs.Line.{entry_text};
 ghost use Rattle.dcr_replay.specs.Cut.{line_of};
-ghost use Rattle.dcr_replay.specs.EntryLines.{Setting, is_done, is_faulted, entry_after, is_answered, answer_after};
+ghost use Rattle.dcr_replay.specs.EntryLines.{Setting, is_done, is_faulted, entry_after, entry_at, is_answered, answer_after};
 ghost use Rattle.dcr_replay.specs.FirstWrong.{setting};
-ghost use Rattle.dcr_replay.specs.Stands.{IsSound, Stands, Takes};
+ghost use Rattle.dcr_replay.specs.Stands.{IsSound, MayCome, Stands, Takes};
 ghost use Rattle.dcr_proj.specs.CoverValue.{IsCover};
 ghost use Rattle.dcr_replay.specs.declared.verdict.Wrong.TheVariants as wrong;
 
@@ -20,7 +23,7 @@ use crate::tracked::{Tracked, tracked_by_each};
 use crate::verdict::Wrong;
 use dcr_graph::{Graph, Marking};
 use dcr_journal::{Call, Entry, Outcome};
-use dcr_line::{Directory, read_entry, write_entry};
+use dcr_line::{Directory, Head, read_entry, read_head, write_entry};
 use dcr_mark::Plain;
 use dcr_proj::Cover;
 use dcr_set::NoMemory;
@@ -80,8 +83,25 @@ impl<'g, 'n> Run<'g, 'n> {
     }
 
     /// Takes the entry that a line tells. Where the answer is a kind, the line is wrong by it, and nothing was
-    /// taken. A line that tells no entry which may come next is refused without memory.
+    /// taken. A line that tells no entry which may come next is refused, whatever memory there is.
     pub(crate) fn take(&mut self, alloc: Global, line: Line<'_>) -> Result<Option<Wrong>, NoMemory>
+        requires { IsSound self.old }
+        ensures sound { IsSound self.new }
+        ensures taken { IfOk result (λ wrong. (S : Setting) (J : List Entry) → Stands S J self.old
+            → Takes S J (line_of line.entry.text.now line.entry.ended) wrong self.new) }
+        ensures kept { IfOk result (λ wrong. IfSome wrong (λ _. self.new ≡ self.old)) }
+        ensures no_entry { (S : Setting) (J : List Entry) → Stands S J self.old
+            → entry_after S J (line_of line.entry.text.now line.entry.ended) ≡ None → result ≡ Ok (Some wrong.Entry) }
+    {
+        if let Some(entry) = self.answered(alloc, line) {
+            self.count(&entry);
+            return Ok(None);
+        }
+        self.take_read(alloc, line)
+    }
+
+    // As `take`, where the whole line is read: also its outcome, which tells how the line is wrong.
+    fn take_read(&mut self, alloc: Global, line: Line<'_>) -> Result<Option<Wrong>, NoMemory>
         requires { IsSound self.old }
         ensures sound { IsSound self.new }
         ensures taken { IfOk result (λ wrong. (S : Setting) (J : List Entry) → Stands S J self.old
@@ -100,6 +120,56 @@ impl<'g, 'n> Run<'g, 'n> {
         Ok(None)
     }
 
+    // The entry whose outcome is the answer and whose text the line is. The outcome is not read: the text with the
+    // answer is made, and the line compared with it. None says nothing: another line is read by `take_read`, and one
+    // for which there is no memory.
+    fn answered(&self, alloc: Global, line: Line<'_>) -> Option<Entry>
+        requires { IsSound self.now }
+        ensures entry { IfSome result (λ entry. (S : Setting) (J : List Entry) → Stands S J self.now
+            → entry_at S J (line_of line.entry.text.now line.entry.ended) ≡ Ok entry) }
+        ensures fits { IfSome result (FitsEntry (length self.now.cover.now.names) (length self.now.graph.now.names)) }
+        ensures comes { IfSome result (λ entry. MayCome self.now entry.session entry.seq) }
+    {
+        let text = line.whole()?;
+        let head = self.next_head(text)?;
+        let outcome = answer(&self.plain, self.cover, &self.tracked, &head.call);
+        let entry = Entry {
+            session: head.session,
+            seq: head.seq,
+            call: head.call,
+            outcome,
+        };
+        let Ok(true) = self.is_line(alloc, text, &entry) else {
+            return None;
+        };
+        Some(entry)
+    }
+
+    // The head that a text begins with, where an entry with it may come next if its place is the next.
+    fn next_head(&self, text: &[u8]) -> Option<Head>
+        requires { IsSound self.now }
+        ensures comes { IfSome result (λ head. MayCome self.now head.session head.seq) }
+        ensures call { IfSome result (λ head. IsInRange (length self.now.cover.now.names) (length self.now.graph.now.names) head.call) }
+        ensures names { IfSome result (λ _. AreNames self.now.cover.now.names × AreNames self.now.graph.now.names) }
+    {
+        if self.is_over() {
+            return None;
+        }
+        let head = read_head(text, self.directory)?;
+        let made = *self.made.get(head.session as usize)?;
+        if head.seq != made {
+            return None;
+        }
+        Some(head)
+    }
+
+    // Whether no further entry may come: the last one was a fault, or there are as many as there may be.
+    fn is_over(&self) -> bool
+        ensures { result ≡ (self.now.faulted || nat_le 200000 self.now.len) }
+    {
+        self.faulted || self.len >= MOST_ENTRIES
+    }
+
     // The entry that a line tells, whatever its outcome. None exactly where it tells none that may come next.
     fn next_entry(&self, line: Line<'_>) -> Option<Entry>
         requires { IsSound self.now }
@@ -110,7 +180,7 @@ impl<'g, 'n> Run<'g, 'n> {
         ensures running { IfSome result (λ _. self.now.faulted ≡ false) }
         ensures session { IfSome result (λ entry. entry.session < 1024) }
     {
-        if self.faulted || self.len >= MOST_ENTRIES {
+        if self.is_over() {
             return None;
         }
         let (place, entry) = read_entry(line.whole()?, self.directory)?;
@@ -138,8 +208,17 @@ impl<'g, 'n> Run<'g, 'n> {
             call: entry.call,
             outcome,
         };
+        self.is_line(alloc, text, &told)
+    }
+
+    // Whether the text is that of the entry, at the next place.
+    fn is_line(&self, alloc: Global, text: &[u8], entry: &Entry) -> Result<bool, NoMemory>
+        requires { FitsEntry (length self.now.cover.now.names) (length self.now.graph.now.names) entry.now }
+        ensures { IfOk result (λ is. is
+            ≡ bytes_eq text.now (entry_text self.now.cover.now.names self.now.graph.now.names self.now.len entry.now)) }
+    {
         let mut line = Vec::with_capacity(alloc, text.len())?;
-        write_entry(self.len, &told, self.graph, self.cover, &mut line)?;
+        write_entry(self.len, entry, self.graph, self.cover, &mut line)?;
         Ok(line.as_slice() == text)
     }
 

@@ -122,8 +122,8 @@ pub(crate) fn pass_entries<O: Sink>(
     ensures never_falls { O.write_faults sink.old ≤ O.write_faults sink.new }
 {
     for place in 0..history.len() {
-        let entry = history.kept(place).unwrap();
-        pass_entry(place, entry, graph, cover, held, sink)?;
+        let entry = history.get(place).unwrap();
+        pass_entry(place, &entry, graph, cover, held, sink)?;
     }
     Ok(())
 }
@@ -148,7 +148,7 @@ fn pass_entry<O: Sink>(
     ensures never_falls { O.write_faults sink.old ≤ O.write_faults sink.new }
 {
     write_entry(place, entry, graph, cover, held)?;
-    put(b"\n", held)?;
+    end_line(held)?;
     pass_full(held, sink)
 }
 
@@ -263,6 +263,14 @@ fn put_line(word: &[u8], text: &[u8], held: &mut Vec<u8>) -> Result<(), NoMemory
     put(word, held)?;
     put(text, held)?;
     put(b"\n", held)
+}
+
+// Adds a line end: one byte, without a copy of a slice.
+fn end_line(held: &mut Vec<u8>) -> Result<(), NoMemory>
+    ensures { OnOk result (held.new.items ≡ held.old.items ++ codes "\n") }
+{
+    held.push(b'\n')?;
+    Ok(())
 }
 
 // Adds these bytes.

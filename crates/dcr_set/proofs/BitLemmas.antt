@@ -1,14 +1,13 @@
 -- The bits of words, one word at a time.
-use Rattle.std.proofs.Common.{◌≡◌, ◌≢◌, set, cond, leb, Some, None, ℕ, zero, suc, ◌+◌, ◌-◌, ◌*◌, ◌/◌, ◌%◌, ◌^◌, ◌<◌, ◌≤◌, min, max, Bool, true, false, not, ◌&&◌, ◌||◌, eqb, List, length, get_or, refl, sym, ap, ◌∙◌, arith, inl, inr}
-use Rattle.std.proofs.Math.Bool.{and-true, and-false}
-use Rattle.std.proofs.lemmas.Bool.{cases_lt, cases_eq, eq-eqb, ne_eqb, le-leb, lt-leb}
+use Rattle.std.proofs.Common.{◌≡◌, ◌≢◌, set, cond, Some, ℕ, zero, suc, ◌+◌, ◌-◌, ◌*◌, ◌/◌, ◌%◌, ◌^◌, ◌<◌, ◌≤◌, min, max, Bool, true, false, not, ◌&&◌, ◌||◌, eqb, List, length, get_or, refl, sym, ap, ◌∙◌, arith, inl, inr}
+use Rattle.std.proofs.lemmas.Bool.{cases_lt, cases_eq, eq-eqb, ne_eqb}
 use Rattle.std.proofs.lemmas.List.{get_or_past, get_or-set_same, get_or-set_other}
-use Rattle.std.proofs.lemmas.Nat.Bits.{bit_at-lt, bit_at_or, bit_at_and, bit_at_not, bit_at-zero, bit_at_set_same, bit_at_set_other, bit_at_clear_same, bit_at_clear_other, bit_at-trailing_zeros, shr_and_one, bit_at_mask_inside, bit_at_mask_below, ones_shl}
+use Rattle.std.proofs.lemmas.Nat.Bits.{bit_at-lt, bit_at_or, bit_at_and, bit_at_not, bit_at-zero, bit_at_set_same, bit_at_set_other, bit_at_clear_same, bit_at_clear_other, bit_at-trailing_zeros, shr_and_one}
 use Rattle.std.specs.Prelude.{bit_and, bit_or}
 use Rattle.std.specs.Int.{bit_at, bit_not, trailing_zeros, w64}
 use Rattle.dcr_set.specs.Bits.{bit}
 use Rattle.dcr_set.specs.Least.{least}
-use Rattle.dcr_set.proofs.LeastLemmas.{least-from, least-none_from}
+use Rattle.dcr_set.proofs.LeastLemmas.{least-from}
 
 -- whether bit i of one number is set
 abbrev pub digit : ℕ → ℕ → Bool
@@ -58,18 +57,39 @@ digit-zero i = ap (λ x. eqb x 1) (bit_at-zero i)
 pub bit-past : (words : List ℕ) (k : ℕ) → length words ≤ k / 64 → bit words k ≡ false
 bit-past words k h = bit_digit words k ∙ ap (λ n. digit n (k % 64)) (get_or_past words (k / 64) 0 h) ∙ digit-zero (k % 64)
 
--- what is done to each word is done to each bit
-pub bit_by_words : (f : Bool → Bool → Bool) → f false false ≡ false → (op : ℕ → ℕ → ℕ) (ws xs ys : List ℕ) → length ws ≡ 16 → length xs ≡ 16 → length ys ≡ 16
-    → ((j i : ℕ) → j < 16 → i < 64 → digit (op (get_or xs j 0) (get_or ys j 0)) i ≡ f (digit (get_or xs j 0) i) (digit (get_or ys j 0) i))
-    → ((j : ℕ) → j < 16 → get_or ws j 0 ≡ op (get_or xs j 0) (get_or ys j 0))
-    → (k : ℕ) → bit ws k ≡ f (bit xs k) (bit ys k)
-bit_by_words f at_none op ws xs ys lw lx ly digits words k = elim (cases_lt (k / 64) 16) [
-  | inl within ↦
-      bit_digit ws k ∙ ap (λ n. digit n (k % 64)) (words (k / 64) within) ∙ digits (k / 64) (k % 64) within (omega arith)
-      ∙ sym (ap (λ b. f b (bit ys k)) (bit_digit xs k) ∙ ap (f (digit (get_or xs (k / 64) 0) (k % 64))) (bit_digit ys k))
-  | inr past ↦
-      bit-past ws k (omega arith) ∙ sym (ap (λ b. f b (bit ys k)) (bit-past xs k (omega arith)) ∙ ap (f false) (bit-past ys k (omega arith)) ∙ at_none)
+-- what is done to each bit of the words below `count`, where the others stay and no bit of theirs would change
+pub bit_by_words : (p : ℕ → Bool) (ws xs : List ℕ) (count : ℕ)
+    → ((k : ℕ) → k / 64 < count → digit (get_or ws (k / 64) 0) (k % 64) ≡ p k)
+    → ((j : ℕ) → count ≤ j → get_or ws j 0 ≡ get_or xs j 0)
+    → ((k : ℕ) → 64 * count ≤ k → bit xs k ≡ p k)
+    → (k : ℕ) → bit ws k ≡ p k
+bit_by_words p ws xs count done kept same k = elim (cases_lt (k / 64) count) [
+  | inl within ↦ bit_digit ws k ∙ done k within
+  | inr behind ↦ bit_digit ws k ∙ ap (λ n. digit n (k % 64)) (kept (k / 64) behind) ∙ sym (bit_digit xs k) ∙ same k (omega arith)
 ]
+
+-- the bits of word i of one, of two and of three lists of words
+pub bit_in : (ws : List ℕ) (i k : ℕ) → k / 64 ≡ i → bit ws k ≡ digit (get_or ws i 0) (k % 64)
+bit_in ws i k same = bit_digit ws k ∙ ap (λ j. digit (get_or ws j 0) (k % 64)) same
+
+pub and_in : (xs ys : List ℕ) (i k : ℕ) → k / 64 ≡ i → (bit xs k && bit ys k) ≡ digit (bit_and (get_or xs i 0) (get_or ys i 0)) (k % 64)
+and_in xs ys i k same =
+    ap (λ b. b && bit ys k) (bit_in xs i k same) ∙ ap (λ b. digit (get_or xs i 0) (k % 64) && b) (bit_in ys i k same)
+    ∙ sym (digit-and (get_or xs i 0) (get_or ys i 0) (k % 64))
+
+pub and_three_in : (xs ys zs : List ℕ) (i k : ℕ) → k / 64 ≡ i
+    → (bit xs k && (bit ys k && bit zs k)) ≡ digit (bit_and (get_or xs i 0) (bit_and (get_or ys i 0) (get_or zs i 0))) (k % 64)
+and_three_in xs ys zs i k same =
+    ap (λ b. b && (bit ys k && bit zs k)) (bit_in xs i k same) ∙ ap (λ b. digit (get_or xs i 0) (k % 64) && b) (and_in ys zs i k same)
+    ∙ sym (digit-and (get_or xs i 0) (bit_and (get_or ys i 0) (get_or zs i 0)) (k % 64))
+
+pub and_not_in : (xs ys zs : List ℕ) (i k : ℕ) → get_or zs i 0 < 2 ^ 64 → k / 64 ≡ i
+    → (bit xs k && (bit ys k && not (bit zs k))) ≡ digit (bit_and (get_or xs i 0) (bit_and (get_or ys i 0) (bit_not w64 (get_or zs i 0)))) (k % 64)
+and_not_in xs ys zs i k fits same =
+    let a = get_or xs i 0 in let b = get_or ys i 0 in let c = get_or zs i 0 in
+    ap (λ t. t && (bit ys k && not (bit zs k))) (bit_in xs i k same) ∙ ap (λ t. digit a (k % 64) && (t && not (bit zs k))) (bit_in ys i k same)
+    ∙ ap (λ t. digit a (k % 64) && (digit b (k % 64) && t)) (ap not (bit_in zs i k same) ∙ sym (digit-not c (k % 64) fits (omega arith)))
+    ∙ sym (digit-and a (bit_and b (bit_not w64 c)) (k % 64) ∙ ap (λ t. digit a (k % 64) && t) (digit-and b (bit_not w64 c) (k % 64)))
 
 -- one word is written: its bits are those of what was written, and all others stay
 pub bit-set_same : (ws : List ℕ) (w n k : ℕ) → w < length ws → k / 64 ≡ w → bit (set ws w n) k ≡ digit n (k % 64)
@@ -128,60 +148,32 @@ bit-clear_bit ws e w r within we re k =
     (λ i within' differs. ap (λ x. eqb x 1) (bit_at_clear_other w64 n r low i within' differs))
     (λ _. refl) k ∙ and_not_test (eqb k e) (bit ws k)
 
--- `MAX << r` keeps the bits from r on
-digit-mask : (n r i : ℕ) → r < 64 → i < 64 → digit (bit_and n ((2 ^ 64 - 1) * 2 ^ r % 2 ^ 64)) i ≡ (digit n i && leb r i)
-digit-mask n r i low within =
-    digit-and n ((2 ^ 64 - 1) * 2 ^ r % 2 ^ 64) i ∙ ap (λ b. digit n i && b)
-    (ap (λ m. digit m i) (ones_shl 64 r (omega arith)) ∙ elim (cases_lt i r) [
-      | inl below ↦ ap (λ x. eqb x 1) (bit_at_mask_below r 64 i below) ∙ sym (lt-leb r i below)
-      | inr at_least ↦ ap (λ x. eqb x 1) (bit_at_mask_inside r 64 i at_least within) ∙ sym (le-leb r i at_least)
-    ])
-
--- the words below w cleared, and word w masked: the bits from e on are left
-pub bit-clear_below : (ws xs : List ℕ) (e w r : ℕ) → length ws ≡ 16 → length xs ≡ 16 → w < 16 → w ≡ e / 64 → r ≡ e % 64
-    → ((j : ℕ) → j < w → get_or xs j 0 ≡ 0)
-    → ((j : ℕ) → w ≤ j → get_or xs j 0 ≡ get_or ws j 0)
-    → (k : ℕ) → bit (set xs w (bit_and (get_or xs w 0) ((2 ^ 64 - 1) * 2 ^ r % 2 ^ 64))) k ≡ (bit ws k && leb e k)
-bit-clear_below ws xs e w r lw lx within we re cleared kept k = elim (cases_eq (k / 64) w) [
-  | inl same_word ↦
-      bit-set_same xs w (bit_and (get_or xs w 0) ((2 ^ 64 - 1) * 2 ^ r % 2 ^ 64)) k (omega arith) same_word
-      ∙ digit-mask (get_or xs w 0) r (k % 64) (omega arith) (omega arith)
-      ∙ ap (λ d. d && leb r (k % 64)) (ap (λ n. digit n (k % 64)) (kept w (omega arith)) ∙ ap (λ j. digit (get_or ws j 0) (k % 64)) (sym same_word) ∙ sym (bit_digit ws k))
-      ∙ ap (λ t. bit ws k && t) (elim (cases_lt (k % 64) r) [
-        | inl below ↦ lt-leb r (k % 64) below ∙ sym (lt-leb e k (omega arith))
-        | inr at_least ↦ le-leb r (k % 64) at_least ∙ sym (le-leb e k (omega arith))
-      ])
-  | inr other_word ↦
-      bit-set_other xs w (bit_and (get_or xs w 0) ((2 ^ 64 - 1) * 2 ^ r % 2 ^ 64)) k other_word ∙ elim (cases_lt (k / 64) w) [
-        | inl below ↦
-            bit_digit xs k ∙ ap (λ n. digit n (k % 64)) (cleared (k / 64) below) ∙ digit-zero (k % 64)
-            ∙ sym (ap (λ t. bit ws k && t) (lt-leb e k (omega arith)) ∙ and-false (bit ws k))
-        | inr above ↦
-            bit_digit xs k ∙ ap (λ n. digit n (k % 64)) (kept (k / 64) above) ∙ sym (bit_digit ws k)
-            ∙ sym (ap (λ t. bit ws k && t) (le-leb e k (let further : w < k / 64 = omega arith in omega arith)) ∙ and-true (bit ws k))
-      ]
-]
-
 -- the lowest bit of the first word that isn't 0 is the least of all
-pub first-bit : (ws : List ℕ) (i : ℕ) → i < 16 → get_or ws i 0 ≢ 0 → get_or ws i 0 < 2 ^ 64 → ((j : ℕ) → j < i → get_or ws j 0 ≡ 0)
-    → Some (i * 64 + trailing_zeros w64 (get_or ws i 0)) ≡ least 1024 (bit ws)
-first-bit ws i within some fits none =
-    let n = get_or ws i 0 in let z = trailing_zeros w64 n in
+pub lowest_in : (p : ℕ → Bool) (count i n : ℕ) → i < count → n ≢ 0 → n < 2 ^ 64 → ((k : ℕ) → k / 64 ≡ i → p k ≡ digit n (k % 64)) → ((k : ℕ) → k < 64 * i → p k ≡ false)
+    → Some (i * 64 + trailing_zeros w64 n) ≡ least (64 * count) p
+lowest_in p count i n within some fits here none =
+    let z = trailing_zeros w64 n in
     let lowest = bit_at-trailing_zeros w64 n (omega arith) fits in
     let word : (i * 64 + z) / 64 ≡ i = (let l : z < 64 = lowest.0 in omega arith) in
     let place : (i * 64 + z) % 64 ≡ z = (let l : z < 64 = lowest.0 in omega arith) in
-    sym (least-from 1024 (bit ws) (i * 64 + z) (record {
+    sym (least-from (64 * count) p (i * 64 + z) (record {
       below = (let l : z < 64 = lowest.0 in omega arith);
-      passes = bit_digit ws (i * 64 + z) ∙ ap (λ j. digit (get_or ws j 0) ((i * 64 + z) % 64)) word ∙ ap (digit n) place ∙ ap (λ x. eqb x 1) lowest.1;
-      none_before = λ j l. bit_digit ws j ∙ elim (cases_lt (j / 64) i) [
-        | inl below ↦ ap (λ m. digit m (j % 64)) (none (j / 64) below) ∙ digit-zero (j % 64)
-        | inr at_least ↦ let same : j / 64 ≡ i = (let t : z < 64 = lowest.0 in omega arith) in ap (λ m. digit (get_or ws m 0) (j % 64)) same ∙ ap (λ x. eqb x 1) (lowest.2 (j % 64) (omega arith))
+      passes = here (i * 64 + z) word ∙ ap (digit n) place ∙ ap (λ x. eqb x 1) lowest.1;
+      none_before = λ j l. elim (cases_lt j (64 * i)) [
+        | inl below ↦ none j below
+        | inr from ↦
+            let t : z < 64 = lowest.0 in
+            let same : j / 64 ≡ i = omega arith in here j same ∙ ap (λ x. eqb x 1) (lowest.2 (j % 64) (omega arith))
       ];
     }))
 
--- where all words are 0 there is no least bit
-pub no-bit : (ws : List ℕ) → length ws ≡ 16 → ((j : ℕ) → j < 16 → get_or ws j 0 ≡ 0) → None ≡ least 1024 (bit ws)
-no-bit ws l none = sym (least-none_from 1024 (bit ws) (λ k below. bit_digit ws k ∙ ap (λ n. digit n (k % 64)) (none (k / 64) (omega arith)) ∙ digit-zero (k % 64)))
+-- a word of 0 has no bit that passes
+pub none_in : (p : ℕ → Bool) (i n : ℕ) → n ≡ 0 → ((k : ℕ) → k / 64 ≡ i → p k ≡ digit n (k % 64)) → ((k : ℕ) → k < 64 * i → p k ≡ false)
+    → (k : ℕ) → k < 64 * (i + 1) → p k ≡ false
+none_in p i n nothing here none k l = elim (cases_lt k (64 * i)) [
+  | inl below ↦ none k below
+  | inr from ↦ let same : k / 64 ≡ i = omega arith in here k same ∙ ap (λ m. digit m (k % 64)) nothing ∙ digit-zero (k % 64)
+]
 
 -- the test `(word >> r) & 1 == 1`
 pub bit-test : (ws : List ℕ) (e w r : ℕ) → w ≡ e / 64 → r ≡ e % 64 → eqb (bit_and (get_or ws w 0 / 2 ^ r) 1) 1 ≡ bit ws e

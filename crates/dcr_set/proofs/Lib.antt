@@ -3,5 +3,7 @@ pub mod BitLemmas
 pub mod SetLemmas
 pub mod StandsLemmas
 pub mod NumbersLemmas
+pub mod IterLemmas
 pub mod ToldLemmas
 pub mod ListLemmas
+pub mod KeptLemmas

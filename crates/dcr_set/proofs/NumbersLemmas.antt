@@ -1,16 +1,16 @@
 -- The ascending list of the numbers that pass: what it has, where it begins, and when two tests give one list.
-use Rattle.std.proofs.Common.{◌≡◌, ℕ, zero, suc, ◌+◌, ◌<◌, ◌≤◌, inl, inr, Bool, true, false, ◌&&◌, leb, cond, List, [], ◌∷◌, length, Option, Some, None, refl, sym, ap, subst, ◌∙◌, arith}
+use Rattle.std.proofs.Common.{◌≡◌, ℕ, zero, suc, ◌+◌, ◌<◌, ◌≤◌, inl, inr, Bool, true, false, not, ◌&&◌, eqb, leb, cond, List, [], ◌∷◌, length, Option, Some, None, refl, sym, ap, subst, ◌∙◌, arith}
 use Rattle.std.specs.List.{range_with_len, filter, Contains, All, slice_get}
 use Rattle.std.specs.List.Sorted.{IsStrictlyIncreasing}
 use Rattle.std.proofs.Math.Bool.{and-true, and-false}
-use Rattle.std.proofs.lemmas.Bool.{cases_Bool, cases_lt, false≢true, lt-leb, le-leb, leb-true, and_parts}
+use Rattle.std.proofs.lemmas.Bool.{cases_Bool, cases_lt, cases_order, false≢true, lt-leb, le-leb, eq-eqb, ne_eqb}
 use Rattle.std.proofs.lemmas.List.FromFn.{length-range_with_len, get_or-range_with_len}
 use Rattle.std.proofs.lemmas.List.Elements.{All-contains, All-filter, All-from_get_or, filter_passes}
 use Rattle.std.proofs.lemmas.List.Kept.{IsStrictlyIncreasing-filter}
-use Rattle.dcr_set.specs.Least.{least}
+use Rattle.dcr_set.specs.Least.{IsLeast, NonePasses}
 use Rattle.dcr_set.specs.EventSet.{has, those, numbers, first_of}
 use Rattle.dcr_set.proofs.LeastLemmas.{least-some, least-none}
-use Rattle.dcr_set.proofs.SetLemmas.{has_past, length-those, has-those, same_set}
+use Rattle.dcr_set.proofs.SetLemmas.{has_past, length-those, has-those, same_set, those-ext}
 
 -- the numbers from a on that pass, n of them tried
 abbrev pub passing : ℕ → ℕ → (ℕ → Bool) → List ℕ
@@ -134,27 +134,23 @@ set_from_numbers s t rooms same = same_set s t rooms (λ k _. agree (has s k) (h
     agree false true f g = g refl
     agree false false f g = refl
 
--- an iterator over the bits from here on gives the least of them, and goes on behind it
-pub left_first : (p : ℕ → Bool) (from e : ℕ) → least 1024 (λ k. p k && leb from k) ≡ Some e
-    → numbers (those 1024 (λ k. p k && leb from k)) ≡ e ∷ numbers (those 1024 (λ k. p k && leb (e + 1) k))
-left_first p from e found =
-    let first = least-some 1024 (λ k. p k && leb from k) e found in
-    let from_below : from ≤ e = leb-true from e (and_parts (p e) (leb from e) first.passes).1 in
-    numbers-those 1024 (λ k. p k && leb from k)
-    ∙ passing_first 0 1024 e (λ k. p k && leb from k) (omega arith) (omega (arith, first.below)) first.passes (λ k _ below. first.none_before k below)
-    ∙ ap (λ xs. e ∷ xs) (passing-ext 0 1024 (λ k. (p k && leb from k) && leb (e + 1) k) (λ k. p k && leb (e + 1) k) (λ k _ _. both_bounds k from_below)
-    ∙ sym (numbers-those 1024 (λ k. p k && leb (e + 1) k)))
+-- the least number that passes stands in front of the others
+pub numbers_first : (n : ℕ) (p : ℕ → Bool) (e : ℕ) → IsLeast n p e → numbers (those n p) ≡ e ∷ numbers (those n (λ k. p k && not (eqb k e)))
+numbers_first n p e first =
+    numbers-those n p ∙ passing_first 0 n e p (omega arith) (omega (arith, first.below)) first.passes (λ k _ before. first.none_before k before)
+    ∙ ap (λ xs. e ∷ xs) (passing-ext 0 n (λ k. p k && leb (e + 1) k) (λ k. p k && not (eqb k e)) (λ k _ _. behind k) ∙ sym (numbers-those n (λ k. p k && not (eqb k e))))
   where
-    both_bounds : (k : ℕ) → from ≤ e → ((p k && leb from k) && leb (e + 1) k) ≡ (p k && leb (e + 1) k)
-    both_bounds k h = elim (cases_lt k (e + 1)) [
-      | inl below ↦ ap (λ t. (p k && leb from k) && t) (lt-leb (e + 1) k below) ∙ and-false (p k && leb from k) ∙ sym (ap (λ t. p k && t) (lt-leb (e + 1) k below) ∙ and-false (p k))
-      | inr above ↦ ap (λ t. (p k && t) && leb (e + 1) k) (le-leb from k (omega arith)) ∙ ap (λ t. t && leb (e + 1) k) (and-true (p k))
+    behind : (k : ℕ) → (p k && leb (e + 1) k) ≡ (p k && not (eqb k e))
+    behind k = elim (cases_order k e) [
+      | inl same ↦ ap (λ t. p k && t) (lt-leb (e + 1) k (omega arith) ∙ sym (ap not (eq-eqb k e same)))
+      | inr (inl before) ↦ ap (λ t. t && leb (e + 1) k) (first.none_before k before) ∙ sym (ap (λ t. t && not (eqb k e)) (first.none_before k before))
+      | inr (inr past) ↦ ap (λ t. p k && t) (le-leb (e + 1) k (omega arith) ∙ sym (ap not (ne_eqb k e (λ same. absurd (omega arith)))))
     ]
 
--- where no bit passes no event is left
-pub none_left : (p : ℕ → Bool) → ((k : ℕ) → k < 1024 → p k ≡ false) → numbers (those 1024 p) ≡ []
-none_left p h = numbers-those 1024 p ∙ passing_none 0 1024 p (λ k _ below. h k (omega arith))
+-- where no number passes the list is empty
+pub numbers_none : (n : ℕ) (p : ℕ → Bool) → NonePasses n p → numbers (those n p) ≡ []
+numbers_none n p h = numbers-those n p ∙ passing_none 0 n p (λ k _ below. h k (omega arith))
 
--- no bit stands from 1,024 on
-pub past_all : (p : ℕ → Bool) (from : ℕ) → 1024 ≤ from → (k : ℕ) → k < 1024 → (p k && leb from k) ≡ false
-past_all p from h k below = ap (λ t. p k && t) (lt-leb from k (omega arith)) ∙ and-false (p k)
+-- tests that agree below the room make one list
+pub numbers-ext : (n : ℕ) (p q : ℕ → Bool) → ((k : ℕ) → k < n → p k ≡ q k) → numbers (those n p) ≡ numbers (those n q)
+numbers-ext n p q h = ap numbers (those-ext n p q h)

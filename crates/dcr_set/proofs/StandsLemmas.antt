@@ -1,16 +1,17 @@
 -- Words stand for a set: what each operation on words does to the set that they stand for.
 use Rattle.std.proofs.Common.{◌≡◌, ℕ, ◌<◌, ◌≤◌, Bool, false, not, ◌&&◌, ◌||◌, ◌/◌, ◌%◌, eqb, List, length, get_or, replicate, inl, inr, refl, sym, ap, ◌∙◌, arith}
-use Rattle.std.proofs.Math.Bool.{and-true, and_assoc}
+use Rattle.std.proofs.Math.Bool.{and-true}
 use Rattle.std.proofs.lemmas.Bool.{cases_lt, ne_eqb}
 use Rattle.std.proofs.lemmas.List.{get_or-replicate, get_or_past, length-replicate}
 use Rattle.dcr_set.specs.Bits.{bit}
 use Rattle.dcr_set.specs.Least.{least}
-use Rattle.dcr_set.specs.EventSet.{has, those, no_event, with_event, without_event}
+use Rattle.dcr_set.specs.EventSet.{has, those, no_event, with_event, without_event, union, difference}
 use Rattle.dcr_set.specs.EventSetModel.{set_of_words, FitsRoom}
 use Rattle.dcr_set.specs.declared.set.EventSet.TheInside.{Inside}
 use Rattle.dcr_set.proofs.BitLemmas.{bit_digit, digit, digit-zero}
-use Rattle.dcr_set.proofs.LeastLemmas.{least-ext, least-room}
+use Rattle.dcr_set.proofs.LeastLemmas.{least-ext}
 use Rattle.dcr_set.proofs.SetLemmas.{has-those, has_past, has_past-those, length-those, same_set}
+use Rattle.dcr_set.proofs.ToldLemmas.{joined_told, told_by_members}
 
 -- the room is the set's, and there is a bit for each member and no other
 pub record Stands (ws : List ℕ) (room : ℕ) (s : List Bool) : Type 0 where
@@ -49,6 +50,32 @@ combined f at_none {ws = ws} {xs = xs} {a = a} {b = b} h i rooms bits = record {
       ∙ sym (has-those_all (length a) (λ j. f (has a j) (has b j)) (λ j past. ap (λ t. f t (has b j)) (has_past a j past) ∙ ap (f false) (has_past b j (omega arith)) ∙ at_none) k);
 }
 
+-- a test on each bit of three sets of words
+pub combined_three : (f : Bool → Bool → Bool → Bool) → f false false false ≡ false → {ws xs zs ys : List ℕ} {r q t : ℕ} {a b c : List Bool}
+    → Stands ws r a → Stands xs q b → Stands zs t c → length a ≡ length b → length a ≡ length c
+    → ((k : ℕ) → bit ys k ≡ f (bit ws k) (bit xs k) (bit zs k)) → Stands ys r (those (length a) (λ k. f (has a k) (has b k) (has c k)))
+combined_three f at_none {ws = ws} {xs = xs} {zs = zs} {a = a} {b = b} {c = c} h i j room also bits = record {
+  room_is = length-those (length a) (λ k. f (has a k) (has b k) (has c k)) ∙ h.room_is;
+  most = h.most;
+  members = λ k. bits k ∙ ap (λ t. f t (bit xs k) (bit zs k)) (h.members k) ∙ ap (λ t. f (has a k) t (bit zs k)) (i.members k) ∙ ap (f (has a k) (has b k)) (j.members k)
+      ∙ sym (has-those_all (length a) (λ n. f (has a n) (has b n) (has c n)) (λ n past.
+      ap (λ t. f t (has b n) (has c n)) (has_past a n past) ∙ ap (λ t. f false t (has c n)) (has_past b n (omega arith))
+      ∙ ap (f false false) (has_past c n (omega arith)) ∙ at_none) k);
+}
+
+-- words have no bit from the room of another set on that has as much room
+pub clear_from : {ws xs : List ℕ} {r q : ℕ} {a b : List Bool} → Stands ws r a → Stands xs q b → length a ≡ length b → (k : ℕ) → r ≤ k → bit xs k ≡ false
+clear_from {b = b} h i rooms k past = i.members k ∙ has_past b k (let e = h.room_is in omega arith)
+
+-- what is taken out of a set and what is added then, as one test
+pub union-difference : (a b c : List Bool) → length a ≡ length c → union (difference a b) c ≡ those (length a) (λ k. (has a k && not (has b k)) || has c k)
+union-difference a b c rooms =
+    joined_told (length a) (difference a b) (λ k. has a k && not (has b k)) refl c (has c) (told_by_members (length a) c (sym rooms)) (λ x y. x || y)
+
+pub difference-union : (a b c : List Bool) → length a ≡ length c → difference (union a b) c ≡ those (length a) (λ k. (has a k || has b k) && not (has c k))
+difference-union a b c rooms =
+    joined_told (length a) (union a b) (λ k. has a k || has b k) refl c (has c) (told_by_members (length a) c (sym rooms)) (λ x y. x && not y)
+
 -- one bit is set
 pub added : {ws ys : List ℕ} {r : ℕ} {a : List Bool} (n e : ℕ) → n ≡ e → Stands ws r a → e < length a
     → ((k : ℕ) → bit ys k ≡ (eqb k n || bit ws k)) → Stands ys r (with_event a e)
@@ -75,8 +102,8 @@ without_past a e past = same_set a (without_event a e) (sym (length-those (lengt
     sym (has-those (length a) (λ j. has a j && not (eqb j e)) k below ∙ ap (λ t. has a k && not t) (ne_eqb k e (λ same. absurd (omega arith))) ∙ and-true (has a k)))
 
 -- the least bit is the least member of the set that the bits tell
-pub first_member : (ys : List ℕ) (n : ℕ) (q : ℕ → Bool) → n ≤ 1024 → ((k : ℕ) → n ≤ k → q k ≡ false) → ((k : ℕ) → bit ys k ≡ q k) → least 1024 (bit ys) ≡ least n q
-first_member ys n q l past bits = least-ext 1024 (bit ys) q (λ j _. bits j) ∙ least-room n 1024 q l past
+pub first_member : (room n : ℕ) (p q : ℕ → Bool) → n ≡ room → ((k : ℕ) → p k ≡ q k) → least room p ≡ least n q
+first_member room n p q same agree = ap (λ m. least m p) (sym same) ∙ least-ext n p q (λ j _. agree j)
 
 -- the room of what the words stand for
 pub room_from : (ws : List ℕ) (room : ℕ) (s : List Bool) (p : ℕ → Bool) → Stands ws room s → length (those room p) ≡ length s
@@ -86,10 +113,9 @@ room_from ws room s p h = length-those room p ∙ sym h.room_is
 pub tested : {ws : List ℕ} {r : ℕ} {a : List Bool} (n e : ℕ) → n ≡ e → Stands ws r a → bit ws n ≡ has a e
 tested {ws = ws} n e same_number h = ap (bit ws) same_number ∙ h.members e
 
--- three bits, joined one after another
-pub and_all : {a b c x y z : Bool} → a ≡ x → b ≡ y → c ≡ z → ((a && b) && c) ≡ (x && (y && z))
-and_all {a = a} {b = b} {c = c} {x = x} {y = y} {z = z} p q r =
-    ap (λ t. (t && b) && c) p ∙ ap (λ t. (x && t) && c) q ∙ ap (λ t. (x && y) && t) r ∙ and_assoc x y z
+-- three bits, joined
+pub and_all : {a b c x y z : Bool} → a ≡ x → b ≡ y → c ≡ z → (a && (b && c)) ≡ (x && (y && z))
+and_all {a = a} {b = b} {c = c} {x = x} {y = y} {z = z} p q r = ap (λ t. t && (b && c)) p ∙ ap (λ t. x && (t && c)) q ∙ ap (λ t. x && (y && t)) r
 
 -- words of zeros have no bit
 pub bit-zeros : (n k : ℕ) → bit (replicate n 0) k ≡ false

@@ -1,17 +1,20 @@
-ghost use Rattle.std.specs.Prelude.{◌≡◌};
+ghost use Rattle.std.specs.Prelude.{◌≡◌, ℕ, ◌≤◌, false};
 ghost use Rattle.std.specs.Iterator.{YieldsFirst, item_count};
 ghost use Rattle.dcr_set.specs.EventSet.{numbers, those};
 ghost use Rattle.dcr_set.specs.Bits.{bit};
 
-use crate::{EventId, words};
+use crate::{EventId, lowest};
 use std::marker::Model;
 
 /// The events of a set, ascending. Contracts see the list of those still to come.
 #[derive(Drop)]
 pub struct EventIter<'a> {
     words: &'a [u64; 16],
-    // The bits below this one were given. 1,024: there is none left.
-    from: u16,
+    // The word whose bits are given now, and those of them that are still to come.
+    at: usize,
+    rest: u64,
+    // No bit is set in this word or behind it.
+    end: usize,
 }
 
 impl<'a> Model for EventIter<'a> {
@@ -27,11 +30,18 @@ impl<'a> Model for EventIter<'a> {
 }
 
 impl<'a> EventIter<'a> {
-    /// From the first bit on: all bits of the words.
-    pub(crate) fn new(words: &'a [u64; 16]) -> EventIter<'a>
+    /// All bits of the words, of which none is set from the room on.
+    pub(crate) fn new(words: &'a [u64; 16], room: u16) -> EventIter<'a>
+        requires most { room ≤ 1024 }
+        requires clear { (k : ℕ) → room ≤ k → bit words.now k ≡ false }
         ensures { result ≡ numbers (those 1024 (bit words.now)) }
     {
-        EventIter { words, from: 0 }
+        EventIter {
+            words,
+            at: 0,
+            rest: words[0],
+            end: usize::from((room + 63) / 64),
+        }
     }
 }
 
@@ -43,20 +53,12 @@ impl<'a> Iterator for EventIter<'a> {
     ghost remaining = { item_count (λ s. s) };
 
     fn next(&mut self) -> Option<EventId> {
-        if self.from == 1024 {
-            return None;
+        if self.rest == 0 {
+            self.at = lowest::word_from(self.words, self.at + 1, self.end)?;
+            self.rest = self.words[self.at];
         }
-        let mut rest = *self.words;
-        words::clear_below(&mut rest, self.from);
-        match words::first_bit(&rest) {
-            Some(e) => {
-                self.from = e + 1;
-                Some(EventId(e))
-            }
-            None => {
-                self.from = 1024;
-                None
-            }
-        }
+        let low = lowest::lowest_bit(self.rest);
+        self.rest &= !(1u64 << u32::from(low));
+        Some(EventId(self.at as u16 * 64 + low))
     }
 }

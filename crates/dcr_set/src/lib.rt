@@ -3,7 +3,9 @@
 
 mod id;
 mod iter;
+mod kept;
 mod laws;
+mod lowest;
 mod set;
 mod words;
 

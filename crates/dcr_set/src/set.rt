@@ -1,8 +1,9 @@
-ghost use Rattle.std.specs.Prelude.{◌≡◌, ◌<◌, ◌≤◌, length};
+ghost use Rattle.std.specs.Prelude.{◌≡◌, ◌+◌, ◌<◌, ◌≤◌, length, take, vec_capacity};
 ghost use Rattle.dcr_set.specs.EventSet.{has, numbers, no_event, with_event, without_event, union, difference, intersection, share, first_of, first_in_both, first_in_both_without, first_in_three};
+ghost use Rattle.dcr_set.specs.Kept.{set_at, words_needed as needed};
 ghost use Rattle.dcr_set.specs.declared.id.TheConstants.{MAX_ATOMS};
 
-use crate::{EventId, EventIter, words};
+use crate::{EventId, EventIter, kept, lowest, words};
 use std::marker::Model;
 
 /// A set of events: numbers below its room, which is at most `MAX_ATOMS`. It is kept in words of bits
@@ -80,7 +81,7 @@ impl EventSet {
         ensures joined { self.new ≡ union self.old other.now }
         ensures room { length self.new ≡ length self.old }
     {
-        words::unite(&mut self.words, &other.words);
+        words::unite(&mut self.words, &other.words, other.room);
     }
 
     /// Takes out all that the other set has.
@@ -89,7 +90,7 @@ impl EventSet {
         ensures left { self.new ≡ difference self.old other.now }
         ensures room { length self.new ≡ length self.old }
     {
-        words::subtract(&mut self.words, &other.words);
+        words::subtract(&mut self.words, &other.words, other.room);
     }
 
     /// Keeps what the other set has too.
@@ -98,7 +99,27 @@ impl EventSet {
         ensures kept { self.new ≡ intersection self.old other.now }
         ensures room { length self.new ≡ length self.old }
     {
-        words::keep(&mut self.words, &other.words);
+        words::keep(&mut self.words, &other.words, self.room);
+    }
+
+    /// Takes out all of `out`, and then adds all of `into`.
+    pub fn replace_with(&mut self, out: &EventSet, into: &EventSet)
+        requires out { length self.old ≡ length out.now }
+        requires into { length self.old ≡ length into.now }
+        ensures replaced { self.new ≡ union (difference self.old out.now) into.now }
+        ensures room { length self.new ≡ length self.old }
+    {
+        words::replace(&mut self.words, &out.words, &into.words, self.room);
+    }
+
+    /// Adds all of `into`, and then takes out all of `out`.
+    pub fn unite_without(&mut self, into: &EventSet, out: &EventSet)
+        requires into { length self.old ≡ length into.now }
+        requires out { length self.old ≡ length out.now }
+        ensures left { self.new ≡ difference (union self.old into.now) out.now }
+        ensures room { length self.new ≡ length self.old }
+    {
+        words::unite_without(&mut self.words, &into.words, &out.words, self.room);
     }
 
     /// What is in one or the other.
@@ -135,7 +156,7 @@ impl EventSet {
     pub fn first(&self) -> Option<EventId>
         ensures { result ≡ first_of self.now }
     {
-        event(words::first_bit(&self.words))
+        event(lowest::lowest_of(&self.words, self.room))
     }
 
     /// The least event in both. None exactly where there is none.
@@ -143,9 +164,7 @@ impl EventSet {
         requires { length self.now ≡ length other.now }
         ensures { result ≡ first_in_both self.now other.now }
     {
-        let mut common = self.words;
-        words::keep(&mut common, &other.words);
-        event(words::first_bit(&common))
+        event(lowest::lowest_common(&self.words, &other.words, self.room))
     }
 
     /// The least event in this set and in `inside` and not in `outside`. None exactly where there is none.
@@ -154,10 +173,7 @@ impl EventSet {
         requires outside { length self.now ≡ length outside.now }
         ensures { result ≡ first_in_both_without self.now inside.now outside.now }
     {
-        let mut common = self.words;
-        words::keep(&mut common, &inside.words);
-        words::subtract(&mut common, &outside.words);
-        event(words::first_bit(&common))
+        event(lowest::lowest_without(&self.words, &inside.words, &outside.words, self.room))
     }
 
     /// The least event in all three. None exactly where there is none.
@@ -166,10 +182,7 @@ impl EventSet {
         requires third { length self.now ≡ length third.now }
         ensures { result ≡ first_in_three self.now second.now third.now }
     {
-        let mut common = self.words;
-        words::keep(&mut common, &second.words);
-        words::keep(&mut common, &third.words);
-        event(words::first_bit(&common))
+        event(lowest::lowest_of_three(&self.words, &second.words, &third.words, self.room))
     }
 
     /// The same set again.
@@ -182,11 +195,41 @@ impl EventSet {
         }
     }
 
+    /// How many words a set with this room takes in a row of words.
+    pub fn words_needed(room: u16) -> usize
+        ensures { result ≡ needed room }
+    {
+        kept::needed(room)
+    }
+
+    /// Puts the set at the end of a row of words, which has the room. `from_words` reads it there. Takes no memory.
+    pub fn put_words(&self, row: &mut Vec<u64>)
+        requires { length row.old.items + needed (length self.now) ≤ vec_capacity row.old }
+        ensures set { set_at row.new.items (length row.old.items) (length self.now) ≡ self.now }
+        ensures before { take (length row.old.items) row.new.items ≡ row.old.items }
+        ensures len { length row.new.items ≡ length row.old.items + needed (length self.now) }
+        ensures capacity { vec_capacity row.old ≤ vec_capacity row.new }
+    {
+        kept::put(&self.words, self.room, row);
+    }
+
+    /// The set with this room that stands in a row of words from this one on.
+    pub fn from_words(row: &[u64], place: usize, room: u16) -> EventSet
+        requires most { room ≤ MAX_ATOMS }
+        requires within { place + needed room ≤ length row.now }
+        ensures { result ≡ set_at row.now place room }
+    {
+        EventSet {
+            words: kept::read(row, place, room),
+            room,
+        }
+    }
+
     /// The events in the set, ascending.
     pub fn iter(&self) -> EventIter<'_>
         ensures { result ≡ numbers self.now }
     {
-        EventIter::new(&self.words)
+        EventIter::new(&self.words, self.room)
     }
 }
 

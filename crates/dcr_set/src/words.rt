@@ -1,37 +1,138 @@
-// Sixteen words of 64 bits each. Bit k is bit k % 64 of word k / 64; there is none from 1,024 on.
-ghost use Rattle.std.specs.Prelude.{◌≡◌, ◌≢◌, ℕ, ◌^◌, ◌<◌, not, ◌&&◌, ◌||◌, ◌==◌, length, nat_le};
-ghost use Rattle.std.specs.Int.{trailing_zeros, w64};
+// Sixteen words of 64 bits each. Bit k is bit k % 64 of word k / 64; there is none from 1,024 on. A call is told the room, from which
+// on no bit is set, and goes over the first four words alone where these hold it. Each loop over words is a function of its own,
+// inlined at four words and at sixteen, so that neither loop counts when it runs.
+ghost use Rattle.std.specs.Prelude.{◌≡◌, ℕ, ◌*◌, ◌<◌, ◌≤◌, false, not, ◌&&◌, ◌||◌, ◌==◌, length};
 ghost use Rattle.dcr_set.specs.Bits.{bit};
-ghost use Rattle.dcr_set.specs.Least.{least};
 
 /// The bits of either, in `words`.
-pub fn unite(words: &mut [u64; 16], other: &[u64; 16])
+pub fn unite(words: &mut [u64; 16], other: &[u64; 16], room: u16)
+    requires { (k : ℕ) → room ≤ k → bit other.now k ≡ false }
     ensures len { length words.new ≡ 16 }
     ensures bits { (k : ℕ) → bit words.new k ≡ (bit words.old k || bit other.now k) }
 {
-    for i in 0..16 {
+    if room <= 256 {
+        unite_below(words, other, 4);
+    } else {
+        unite_below(words, other, 16);
+    }
+}
+
+#[inline(always)]
+fn unite_below(words: &mut [u64; 16], other: &[u64; 16], count: usize)
+    requires count { count ≤ 16 }
+    requires clear { (k : ℕ) → 64 * count ≤ k → bit other.now k ≡ false }
+    ensures len { length words.new ≡ 16 }
+    ensures bits { (k : ℕ) → bit words.new k ≡ (bit words.old k || bit other.now k) }
+{
+    for i in 0..count {
         words[i] |= other[i];
     }
 }
 
 /// The bits of `words` that `other` hasn't.
-pub fn subtract(words: &mut [u64; 16], other: &[u64; 16])
+pub fn subtract(words: &mut [u64; 16], other: &[u64; 16], room: u16)
+    requires { (k : ℕ) → room ≤ k → bit other.now k ≡ false }
     ensures len { length words.new ≡ 16 }
     ensures bits { (k : ℕ) → bit words.new k ≡ (bit words.old k && not (bit other.now k)) }
 {
-    for i in 0..16 {
+    if room <= 256 {
+        subtract_below(words, other, 4);
+    } else {
+        subtract_below(words, other, 16);
+    }
+}
+
+#[inline(always)]
+fn subtract_below(words: &mut [u64; 16], other: &[u64; 16], count: usize)
+    requires count { count ≤ 16 }
+    requires clear { (k : ℕ) → 64 * count ≤ k → bit other.now k ≡ false }
+    ensures len { length words.new ≡ 16 }
+    ensures bits { (k : ℕ) → bit words.new k ≡ (bit words.old k && not (bit other.now k)) }
+{
+    for i in 0..count {
         let cleared = other[i];
         words[i] &= !cleared;
     }
 }
 
 /// The bits of `words` that `other` has too.
-pub fn keep(words: &mut [u64; 16], other: &[u64; 16])
+pub fn keep(words: &mut [u64; 16], other: &[u64; 16], room: u16)
+    requires { (k : ℕ) → room ≤ k → bit words.old k ≡ false }
     ensures len { length words.new ≡ 16 }
     ensures bits { (k : ℕ) → bit words.new k ≡ (bit words.old k && bit other.now k) }
 {
-    for i in 0..16 {
+    if room <= 256 {
+        keep_below(words, other, 4);
+    } else {
+        keep_below(words, other, 16);
+    }
+}
+
+#[inline(always)]
+fn keep_below(words: &mut [u64; 16], other: &[u64; 16], count: usize)
+    requires count { count ≤ 16 }
+    requires clear { (k : ℕ) → 64 * count ≤ k → bit words.old k ≡ false }
+    ensures len { length words.new ≡ 16 }
+    ensures bits { (k : ℕ) → bit words.new k ≡ (bit words.old k && bit other.now k) }
+{
+    for i in 0..count {
         words[i] &= other[i];
+    }
+}
+
+/// The bits of `words` that `out` hasn't, and those of `into`.
+pub fn replace(words: &mut [u64; 16], out: &[u64; 16], into: &[u64; 16], room: u16)
+    requires out { (k : ℕ) → room ≤ k → bit out.now k ≡ false }
+    requires into { (k : ℕ) → room ≤ k → bit into.now k ≡ false }
+    ensures len { length words.new ≡ 16 }
+    ensures bits { (k : ℕ) → bit words.new k ≡ ((bit words.old k && not (bit out.now k)) || bit into.now k) }
+{
+    if room <= 256 {
+        replace_below(words, out, into, 4);
+    } else {
+        replace_below(words, out, into, 16);
+    }
+}
+
+#[inline(always)]
+fn replace_below(words: &mut [u64; 16], out: &[u64; 16], into: &[u64; 16], count: usize)
+    requires count { count ≤ 16 }
+    requires out { (k : ℕ) → 64 * count ≤ k → bit out.now k ≡ false }
+    requires into { (k : ℕ) → 64 * count ≤ k → bit into.now k ≡ false }
+    ensures len { length words.new ≡ 16 }
+    ensures bits { (k : ℕ) → bit words.new k ≡ ((bit words.old k && not (bit out.now k)) || bit into.now k) }
+{
+    for i in 0..count {
+        let cleared = out[i];
+        words[i] = (words[i] & !cleared) | into[i];
+    }
+}
+
+/// The bits of `words` or of `into` that `out` hasn't.
+pub fn unite_without(words: &mut [u64; 16], into: &[u64; 16], out: &[u64; 16], room: u16)
+    requires into { (k : ℕ) → room ≤ k → bit into.now k ≡ false }
+    requires out { (k : ℕ) → room ≤ k → bit out.now k ≡ false }
+    ensures len { length words.new ≡ 16 }
+    ensures bits { (k : ℕ) → bit words.new k ≡ ((bit words.old k || bit into.now k) && not (bit out.now k)) }
+{
+    if room <= 256 {
+        unite_without_below(words, into, out, 4);
+    } else {
+        unite_without_below(words, into, out, 16);
+    }
+}
+
+#[inline(always)]
+fn unite_without_below(words: &mut [u64; 16], into: &[u64; 16], out: &[u64; 16], count: usize)
+    requires count { count ≤ 16 }
+    requires into { (k : ℕ) → 64 * count ≤ k → bit into.now k ≡ false }
+    requires out { (k : ℕ) → 64 * count ≤ k → bit out.now k ≡ false }
+    ensures len { length words.new ≡ 16 }
+    ensures bits { (k : ℕ) → bit words.new k ≡ ((bit words.old k || bit into.now k) && not (bit out.now k)) }
+{
+    for i in 0..count {
+        let cleared = out[i];
+        words[i] = (words[i] | into[i]) & !cleared;
     }
 }
 
@@ -62,41 +163,4 @@ pub fn test_bit(words: &[u64; 16], e: u16) -> bool
 {
     let word = words[usize::from(e / 64)];
     (word >> u32::from(e % 64)) & 1 == 1
-}
-
-/// Clears the bits below `e`.
-pub fn clear_below(words: &mut [u64; 16], e: u16)
-    requires { e < 1024 }
-    ensures len { length words.new ≡ 16 }
-    ensures bits { (k : ℕ) → bit words.new k ≡ (bit words.old k && nat_le e k) }
-{
-    let word = usize::from(e / 64);
-    for i in 0..word {
-        words[i] = 0;
-    }
-    words[word] &= u64::MAX << u32::from(e % 64);
-}
-
-/// The least bit that is set. None exactly where none is.
-pub fn first_bit(words: &[u64; 16]) -> Option<u16>
-    ensures { result ≡ least 1024 (bit words.now) }
-{
-    for i in 0..16 {
-        let word = words[i];
-        if word != 0 {
-            return Some(i as u16 * 64 + lowest_bit(word));
-        }
-    }
-    None
-}
-
-// The place of the lowest bit that is set.
-fn lowest_bit(word: u64) -> u16
-    requires { word ≢ 0 }
-    // A word's own range, which the proof of the caller cites.
-    ensures fits { word < 2 ^ 64 }
-    ensures place { result ≡ trailing_zeros w64 word }
-    ensures low { result < 64 }
-{
-    word.trailing_zeros() as u16
 }

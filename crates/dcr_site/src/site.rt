@@ -1,4 +1,8 @@
-ghost use Rattle.std.specs.Prelude.{◌≡◌, ◌<◌, IsTrue, length};
+ghost use Rattle.std.specs.Prelude.{◌≡◌, ◌<◌, IsTrue, IfSome, length};
+ghost use Rattle.std.specs.Option.{option_copied};
+ghost use Rattle.dcr_set.specs.EventSet.{union, difference, first_in_both_without, first_in_three};
+ghost use Rattle.dcr_proj.specs.Masks.{or_nothing};
+ghost use Rattle.dcr_proj.specs.Rows.{lent_effects};
 ghost use Rattle.dcr_site.specs.MarksAfter.{marks_after};
 
 use dcr_graph::{Cause, Marking, SiteMark};
@@ -75,17 +79,10 @@ impl Site {
             return Decision::Blocked(Cause::Excluded);
         }
         let guards = self.projection.guards(e);
-        let mark = &self.mark;
-        if let Some(c) = guards
-            .condition
-            .first_common_without(&mark.included, &mark.executed)
-        {
+        if let Some(c) = open_condition(guards.condition, &self.mark) {
             return Decision::Blocked(Cause::Condition(c));
         }
-        if let Some(m) = guards
-            .milestone
-            .first_common_three(&mark.included, &mark.pending)
-        {
+        if let Some(m) = pending_milestone(guards.milestone, &self.mark) {
             return Decision::Blocked(Cause::Milestone(m));
         }
         Decision::Enabled
@@ -98,7 +95,7 @@ impl Site {
         ensures stepped { (G : Rules) (S : List Bool) (M : Marks) → StandsAt G S M self.old → StandsAt G S (step G M e) self.new }
     {
         let tracked = self.projection.tracked_ex().contains(e);
-        apply_masks(&mut self.mark, self.projection.effects(e), tracked, e);
+        apply_masks(&mut self.mark, &self.projection.effects(e), tracked, e);
     }
 
     /// The marks.
@@ -113,10 +110,8 @@ impl Site {
         ensures enabled { (G : Rules) (S : List Bool) (M : Marks) → StandsAt G S M self.now → result ≡ enabled_in G S M }
         ensures room { length result ≡ length self.now.projection.own }
     {
-        let atoms = self.atoms();
-        let mut can = EventSet::new(atoms);
-        for number in 0..atoms {
-            let e = EventId(number);
+        let mut can = EventSet::new(self.atoms());
+        for e in self.projection.own().iter() {
             if self.enables(e) {
                 can.insert(e);
             }
@@ -151,14 +146,35 @@ impl Site {
     }
 }
 
-// Does to the marks what the masks of the event say.
-fn apply_masks(mark: &mut SiteMark, effects: &Effects, tracked: bool, e: EventId)
+// The least of these condition events that is included and not executed.
+fn open_condition(conditions: Option<&EventSet>, mark: &SiteMark) -> Option<EventId>
+    requires included { IfSome conditions (λ mask. length mask.now ≡ length mark.now.included) }
+    requires executed { IfSome conditions (λ mask. length mask.now ≡ length mark.now.executed) }
+    ensures { result ≡ first_in_both_without (or_nothing (length mark.now.included) (option_copied conditions.entry)) mark.now.included mark.now.executed }
+{
+    let conditions = conditions?;
+    conditions.first_common_without(&mark.included, &mark.executed)
+}
+
+// The least of these milestone events that is included and pending.
+fn pending_milestone(milestones: Option<&EventSet>, mark: &SiteMark) -> Option<EventId>
+    requires included { IfSome milestones (λ mask. length mask.now ≡ length mark.now.included) }
+    requires pending { IfSome milestones (λ mask. length mask.now ≡ length mark.now.pending) }
+    ensures { result ≡ first_in_three (or_nothing (length mark.now.included) (option_copied milestones.entry)) mark.now.included mark.now.pending }
+{
+    let milestones = milestones?;
+    milestones.first_common_three(&mark.included, &mark.pending)
+}
+
+// Does to the marks what the masks of the event say. The masks that have no event are not there, and cost nothing.
+fn apply_masks(mark: &mut SiteMark, effects: &Effects<'_>, tracked: bool, e: EventId)
     requires executed { IsTrue tracked → e < length mark.old.executed }
-    requires cancel { length effects.now.cancel ≡ length mark.old.pending }
-    requires response { length effects.now.response ≡ length mark.old.pending }
-    requires include { length effects.now.include ≡ length mark.old.included }
-    requires exclude { length effects.now.exclude ≡ length mark.old.included }
-    ensures marks { mark.new ≡ marks_after effects.now tracked mark.old e }
+    requires marks { length mark.old.included ≡ length mark.old.pending }
+    requires cancel { IfSome effects.now.cancel (λ mask. length mask.now ≡ length mark.old.pending) }
+    requires response { IfSome effects.now.response (λ mask. length mask.now ≡ length mark.old.pending) }
+    requires include { IfSome effects.now.include (λ mask. length mask.now ≡ length mark.old.included) }
+    requires exclude { IfSome effects.now.exclude (λ mask. length mask.now ≡ length mark.old.included) }
+    ensures marks { mark.new ≡ marks_after (lent_effects (length mark.old.pending) effects.now) tracked mark.old e }
     ensures executed { length mark.new.executed ≡ length mark.old.executed }
     ensures pending { length mark.new.pending ≡ length mark.old.pending }
     ensures included { length mark.new.included ≡ length mark.old.included }
@@ -167,8 +183,30 @@ fn apply_masks(mark: &mut SiteMark, effects: &Effects, tracked: bool, e: EventId
         mark.executed.insert(e);
     }
     mark.pending.remove(e);
-    mark.pending.minus_with(&effects.cancel);
-    mark.pending.union_with(&effects.response);
-    mark.included.union_with(&effects.include);
-    mark.included.minus_with(&effects.exclude);
+    take_out(&mut mark.pending, effects.cancel);
+    put_in(&mut mark.pending, effects.response);
+    put_in(&mut mark.included, effects.include);
+    take_out(&mut mark.included, effects.exclude);
+}
+
+// Adds what a mask has.
+fn put_in(set: &mut EventSet, mask: Option<&EventSet>)
+    requires { IfSome mask (λ mask. length mask.now ≡ length set.old) }
+    ensures joined { set.new ≡ union set.old (or_nothing (length set.old) (option_copied mask.entry)) }
+    ensures room { length set.new ≡ length set.old }
+{
+    if let Some(mask) = mask {
+        set.union_with(mask);
+    }
+}
+
+// Takes out what a mask has.
+fn take_out(set: &mut EventSet, mask: Option<&EventSet>)
+    requires { IfSome mask (λ mask. length mask.now ≡ length set.old) }
+    ensures left { set.new ≡ difference set.old (or_nothing (length set.old) (option_copied mask.entry)) }
+    ensures room { length set.new ≡ length set.old }
+{
+    if let Some(mask) = mask {
+        set.minus_with(mask);
+    }
 }

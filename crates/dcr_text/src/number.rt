@@ -1,4 +1,5 @@
-ghost use Rattle.std.specs.Prelude.{◌≡◌, ◌↔◌, ℕ, ◌+◌, ◌<◌, ◌≤◌, ◌^◌, ◌++◌, decimal, length, vec_len, vec_capacity, IsOk, IsTrue, OnOk, OnErr};
+ghost use Rattle.std.specs.Prelude.{◌≡◌, ◌↔◌, ℕ, ◌+◌, ◌*◌, ◌-◌, ◌<◌, ◌≤◌, ◌^◌, ◌++◌, decimal, length, slice_index_or, vec_len, vec_capacity, IsOk, IsTrue, OnOk, OnErr};
+ghost use Rattle.std.specs.Str.Parse.{AllDigits, digits_value};
 
 use dcr_set::NoMemory;
 use itoa::Buffer;
@@ -19,26 +20,39 @@ pub fn decimal(n: u64, out: &mut Vec<u8>) -> Result<(), NoMemory>
 pub fn read_decimal(bytes: &[u8]) -> Option<u64>
     ensures { (n : ℕ) → (result ≡ Some n) ↔ ((n < 2 ^ 64) × (bytes.now ≡ decimal n)) }
 {
-    let n = parse(bytes)?;
-    if !is_decimal_of(n, bytes) {
+    if !begins_as_decimal(bytes) {
         return None;
     }
-    Some(n)
+    read_digits(bytes)
 }
 
-// The number that the bytes write, by a reader that takes a plus and leading zeros too.
-fn parse(bytes: &[u8]) -> Option<u64>
-    ensures { (n : ℕ) → n < 2 ^ 64 → bytes.now ≡ decimal n → result ≡ Some n }
+// Whether there is a byte, and no zero before another one.
+fn begins_as_decimal(bytes: &[u8]) -> bool
+    ensures { IsTrue result ↔ ((0 < length bytes.now) × (slice_index_or bytes.now 0 0 ≡ 48 → length bytes.now ≡ 1)) }
 {
-    let Ok(text) = str::from_utf8(bytes) else {
+    if bytes.is_empty() {
+        return false;
+    }
+    bytes[0] != b'0' || bytes.len() == 1
+}
+
+// The number that digits write, one by one. None exactly where a byte is no digit or the number is too large.
+fn read_digits(bytes: &[u8]) -> Option<u64>
+    ensures { (n : ℕ) → (result ≡ Some n) ↔ (AllDigits 10 bytes.now × (digits_value 10 bytes.now ≡ n) × (n < 2 ^ 64)) }
+{
+    let mut number = 0;
+    for byte in bytes {
+        number = with_digit(number, *byte)?;
+    }
+    Some(number)
+}
+
+// The number with one digit behind its own.
+fn with_digit(number: u64, byte: u8) -> Option<u64>
+    ensures { (n : ℕ) → (result ≡ Some n) ↔ (((48 ≤ byte) × (byte ≤ 57)) × (number * 10 + (byte - 48) ≡ n) × (n < 2 ^ 64)) }
+{
+    if byte < b'0' || byte > b'9' {
         return None;
-    };
-    text.parse::<u64>().ok()
-}
-
-// Whether the bytes are the decimal form of the number.
-fn is_decimal_of(n: u64, bytes: &[u8]) -> bool
-    ensures { IsTrue result ↔ (bytes.now ≡ decimal n) }
-{
-    Buffer::new().format(n).as_bytes() == bytes
+    }
+    number.checked_mul(10)?.checked_add(u64::from(byte - b'0'))
 }

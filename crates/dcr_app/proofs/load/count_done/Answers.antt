@@ -1,4 +1,4 @@
-use Rattle.std.proofs.Common.{◌≡◌, ℕ, ◌+◌, ◌≤◌, Bool, List, arith, cond, drop, length, option_map, sym, ap, ◌∙◌}
+use Rattle.std.proofs.Common.{◌≡◌, ℕ, ◌+◌, ◌≤◌, Bool, List, arith, cond, drop, length, sym, ap, ◌∙◌}
 use Rattle.std.proofs.lemmas.List.{drop_all}
 use Rattle.dcr_journal.specs.declared.call.Entry.{Entry}
 use Rattle.dcr_replay.specs.EntryLines.{is_done}
@@ -11,8 +11,8 @@ use Rattle.dcr_app.proofs.load.count_done.Goals.{then-is_done, else-is_done}
 next : (c : goal.Joined-is_done) (more : ℕ) → cond c.is_done.result 1 0 ≡ more → c.if-is_done.done ≡ c.loop-place.done + more
     → c.if-is_done.done + count_done (drop (c.loop-place.place + 1) c.args.history.now.entries) ≡ count_done c.args.history.now.entries
 next c more one is =
-    let entries = c.args.history.now.entries in let entry = c.unwrap-entry.result.now in
-    let here = sym c.kept.ensures ∙ ap (option_map (λ x. x.now)) c.unwrap-entry.ensures in
+    let entries = c.args.history.now.entries in let entry = c.unwrap-entry.result in
+    let here = sym c.get.ensures ∙ c.unwrap-entry.ensures in
     let split = counted_next entries c.loop-place.place entry here in
     let added : cond (is_done entry.outcome) 1 0 ≡ more = ap (λ (b : Bool). cond b 1 0) (sym c.is_done.ensures) ∙ one in
     let all = c.loop-place.invariant.counted in omega (arith, is, split, added, all)

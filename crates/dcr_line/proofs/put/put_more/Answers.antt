@@ -1,4 +1,4 @@
-use Rattle.std.proofs.Common.{◌≡◌, ◌<◌, List, ℕ, ◌∷◌, ◌++◌, length, sym, ap, ◌∙◌, append_assoc, arith}
+use Rattle.std.proofs.Common.{◌≡◌, ◌<◌, List, ℕ, [], ◌∷◌, ◌++◌, length, sym, ap, ◌∙◌, append_assoc, arith}
 use Rattle.std.proofs.lemmas.Grind.{common_steps}
 use Rattle.std.proofs.lemmas.List.Elements.{All-rest}
 use Rattle.dcr_line.specs.Line.{comma_names}
@@ -12,7 +12,8 @@ pub loop-e-preserved : goal.loop-e-preserved
 loop-e-preserved c = record {
   atoms = All-rest (λ e. e < length c.args.graph.now.names) _ _ _ c.in-Some.ensures.steps c.loop-e.invariant.atoms;
   added = one_more _ _ _ _ _ _
-      (c.in_ok-put_named.ensures.added ∙ ap (λ name. c.loop-e.out.items ++ (44 ∷ name)) c.name.ensures)
+      (c.in_ok-put.ensures.added ∙ ap (λ l. l ++ c.as_bytes.result.now) c.in_ok-put_comma.ensures.added ∙ append_assoc c.loop-e.out.items (44 ∷ []) c.as_bytes.result.now
+      ∙ ap (λ name. c.loop-e.out.items ++ (44 ∷ name)) (c.as_bytes.ensures.value ∙ c.text.ensures.text ∙ c.name.ensures))
       (ap (comma_names c.args.graph.now.names) c.in-Some.ensures.steps) c.loop-e.invariant.added;
   kept = grind (arith, common_steps);
 }

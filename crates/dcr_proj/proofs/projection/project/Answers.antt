@@ -1,28 +1,63 @@
-use Rattle.std.proofs.Common.{◌≡◌, ◌||◌, ap, sym, subst, ◌∙◌}
+use Rattle.std.proofs.Common.{◌≡◌, ℕ, ◌<◌, ◌||◌, length, refl, ap, sym, subst, ◌∙◌, arith}
 use Rattle.dcr_set.specs.EventSet.{has, union, those}
 use Rattle.dcr_graph.specs.GraphValue.{rules_of}
 use Rattle.dcr_graph.specs.Projection.{leads_to, tracks_included, tracks_executed, tracks_pending, in_alphabet}
 use Rattle.dcr_graph.specs.declared.kind.Kind.TheVariants.{Condition, Milestone}
-use Rattle.dcr_proj.specs.Rows.{rows_where, effects_within}
+use Rattle.dcr_proj.specs.CoverValue.{atoms_of}
+use Rattle.dcr_proj.specs.Rows.{rows_where, guards_of, effects_within, guard_row, effect_row, guard_masks, effect_masks, IsGuardRow, IsEffectRow}
 use Rattle.dcr_proj.specs.Alphabet.{alphabet_within}
-use Rattle.dcr_proj.specs.Local.{projection_of}
-use Rattle.dcr_proj.specs.ProjectionModel.{IsLocal, local_of}
+use Rattle.dcr_proj.specs.ProjectionModel.{local_of}
 use Rattle.dcr_set.proofs.ToldLemmas.{union-those, union_set-those}
-use Rattle.dcr_proj.proofs.ProjectionLemmas.{same_local, projection_fits, alphabet_is, effect_rows_are}
+use Rattle.dcr_proj.proofs.MaskLemmas.{room_first, kept_guard_row}
+use Rattle.dcr_proj.proofs.RowLemmas.{rows-ext}
+use Rattle.dcr_proj.proofs.ProjectionLemmas.{same_local, alphabet_is, effect_rows_are}
 use Rattle.dcr_proj.proofs.projection.project.Goals as goal
-use Rattle.dcr_proj.proofs.projection.project.Goals.{After-copy}
+use Rattle.dcr_proj.proofs.projection.project.Goals.{After-into_sets}
 
-made : (c : After-copy) → local_of (record {
-  own = c.copy.result;
-  tracked_in = c.joined-tracked_in.result;
-  tracked_ex = c.joined-tracked_ex.result;
-  tracked_re = c.joined-tracked_re.result;
-  alphabet = c.alphabet_of-alphabet.result;
-  guards = c.in_ok-guards.guards;
-  effects = c.in_ok-effects.effects;
-}) ≡ projection_of (rules_of c.args.graph.now) c.args.own.now
-made c =
-    let G = rules_of c.args.graph.now in let S = c.args.own.now in
+pub of_each-requires-clause-room : goal.of_each-requires-clause-room
+of_each-requires-clause-room c = room_first c.in_ok-masks.masks.sets.items c.atoms.result c.in_ok-masks.ensures ∙ c.atoms.ensures.atoms
+
+-- the numbers of what guards an atom, among all masks
+guard_at : (c : After-into_sets) (e : ℕ) → e < length c.args.graph.now.names
+    → IsGuardRow (has c.args.own.now) (guards_of (rules_of c.args.graph.now)) c.into_sets.result.items e (guard_row c.in_ok-guards.guards.items e)
+guard_at c e atom =
+    subst (λ masks. IsGuardRow (has c.args.own.now) (guards_of (rules_of c.args.graph.now)) masks e (guard_row c.in_ok-guards.guards.items e)) (sym c.into_sets.ensures.sets)
+    (kept_guard_row (has c.args.own.now) (guards_of (rules_of c.args.graph.now)) c.of_each.new.masks.sets.items c.of_each-2.new.masks.sets.items e
+    (guard_row c.in_ok-guards.guards.items e) c.of_each-2.ensures.kept (c.in_ok-guards.ensures.rows e atom))
+
+-- and of what an event of the alphabet does
+effect_at : (c : After-into_sets) (e : ℕ) → e < length c.args.graph.now.names
+    → IsEffectRow (has c.alphabet_of-alphabet.result) (effects_within (rules_of c.args.graph.now) c.joined-tracked_in.result c.joined-tracked_re.result)
+    c.into_sets.result.items e (effect_row c.in_ok-effects.effects.items e)
+effect_at c e atom =
+    subst (λ masks. IsEffectRow (has c.alphabet_of-alphabet.result) (effects_within (rules_of c.args.graph.now) c.joined-tracked_in.result c.joined-tracked_re.result)
+    masks e (effect_row c.in_ok-effects.effects.items e)) (sym c.into_sets.ensures.sets) (c.in_ok-effects.ensures.rows e atom)
+
+own_room : (c : After-into_sets) → length c.copy.result ≡ length c.args.graph.now.names
+own_room c = ap (λ s. length s) c.copy.ensures ∙ c.requires
+
+pub invariant_of-result : goal.invariant_of-result
+invariant_of-result c =
+    let own = own_room c in let room = ap (λ s. length s) (sym c.copy.ensures) in
+    record {
+      tracked_in = c.joined-tracked_in.ensures.room ∙ room;
+      tracked_ex = c.joined-tracked_ex.ensures.room ∙ room;
+      tracked_re = c.joined-tracked_re.ensures.room ∙ room;
+      alphabet = c.alphabet_of-alphabet.ensures.room ∙ sym own;
+      masks = c.into_sets.ensures.masks;
+      rooms = ap (λ sets. atoms_of sets) c.into_sets.ensures.sets ∙ c.in_ok-effects.ensures.room ∙ sym own;
+      as_many_guards = c.in_ok-guards.ensures.len ∙ sym own;
+      as_many_effects = c.in_ok-effects.ensures.len ∙ sym own;
+      guards = λ e below. (guard_at c e (omega arith)).within;
+      effects = λ e below. (effect_at c e (omega arith)).within;
+    }
+
+pub returns : goal.returns
+returns c =
+    let G = rules_of c.args.graph.now in let S = c.args.own.now in let n = length c.args.graph.now.names in let masks = c.into_sets.result.items in
+    let tin = c.joined-tracked_in.result in let tre = c.joined-tracked_re.result in let A = c.alphabet_of-alphabet.result in
+    let guard_of : (e : ℕ) → _ = λ e. guard_masks masks (guard_row c.in_ok-guards.guards.items e) in
+    let effect_of : (e : ℕ) → _ = λ e. effect_masks masks (effect_row c.in_ok-effects.effects.items e) in
     let tracked_ex : c.joined-tracked_ex.result ≡ those G.atoms (tracks_executed G S) =
     c.joined-tracked_ex.ensures.joined ∙ ap (union S) c.sources_into-conditions.ensures.sources ∙ union_set-those S G.atoms (leads_to G Condition (has S)) c.requires in
     let tracked_re : c.joined-tracked_re.result ≡ those G.atoms (tracks_pending G S) =
@@ -37,22 +72,20 @@ made c =
     ∙ ap (λ s. those G.atoms (alphabet_within G (those G.atoms (tracks_included G S)) s)) tracked_re ∙ alphabet_is G S in
     ap (λ s. local_of (record {
       own = s;
-      tracked_in = c.joined-tracked_in.result;
+      tracked_in = tin;
       tracked_ex = c.joined-tracked_ex.result;
-      tracked_re = c.joined-tracked_re.result;
-      alphabet = c.alphabet_of-alphabet.result;
+      tracked_re = tre;
+      alphabet = A;
+      masks = c.into_sets.result;
       guards = c.in_ok-guards.guards;
       effects = c.in_ok-effects.effects;
     })) c.copy.ensures
     ∙ same_local S _ _ _ _ _ _ _ _ _ _ _ _ tracked_in tracked_ex tracked_re alphabet
-    c.in_ok-guards.ensures
-    (c.in_ok-effects.ensures ∙ ap (λ s. rows_where G.atoms (has s) (effects_within G c.joined-tracked_in.result c.joined-tracked_re.result)) alphabet
-    ∙ ap (λ s. rows_where G.atoms (has (those G.atoms (in_alphabet G S))) (effects_within G s c.joined-tracked_re.result)) tracked_in
+    (ap (λ k. rows_where k (has S) guard_of) c.requires
+    ∙ rows-ext n (has S) (has S) guard_of (guards_of G) (λ _ _. refl) (λ e atom owned. (guard_at c e atom).told owned))
+    (ap (λ k. rows_where k (has A) effect_of) c.requires
+    ∙ rows-ext n (has A) (has A) effect_of (effects_within G tin tre) (λ _ _. refl) (λ e atom heard. (effect_at c e atom).told heard)
+    ∙ ap (λ s. rows_where G.atoms (has s) (effects_within G tin tre)) alphabet
+    ∙ ap (λ s. rows_where G.atoms (has (those G.atoms (in_alphabet G S))) (effects_within G s tre)) tracked_in
     ∙ ap (λ s. rows_where G.atoms (has (those G.atoms (in_alphabet G S))) (effects_within G (those G.atoms (tracks_included G S)) s)) tracked_re
     ∙ effect_rows_are G S)
-
-pub invariant_of-result : goal.invariant_of-result
-invariant_of-result c = subst IsLocal (sym (made c)) (projection_fits (rules_of c.args.graph.now) c.args.own.now c.requires)
-
-pub returns : goal.returns
-returns c = made c

@@ -7,8 +7,8 @@ pub returns-in_err-write_entry-clause-stopped : goal.returns-in_err-write_entry-
 returns-in_err-write_entry-clause-stopped g c = IfErr-from c.from_residual.result c.from_residual.ensures.1 (λ stop is.
     no_memory_stops _ _ _ _ stop (line_some _) is)
 
-pub returns-in_err-put-clause-stopped : goal.returns-in_err-put-clause-stopped
-returns-in_err-put-clause-stopped g c = IfErr-from c.from_residual-in_err-put.result c.from_residual-in_err-put.ensures.1 (λ stop is.
+pub returns-in_err-end_line-clause-stopped : goal.returns-in_err-end_line-clause-stopped
+returns-in_err-end_line-clause-stopped g c = IfErr-from c.from_residual-in_err-end_line.result c.from_residual-in_err-end_line.ensures.1 (λ stop is.
     no_memory_stops _ _ _ _ stop (line_some _) is)
 
 pub returns-clause-passed : goal.returns-clause-passed

@@ -1,36 +1,36 @@
-use Rattle.std.proofs.Common.{◌≡◌, true, ap, sym, subst, ◌∙◌, length, arith}
-use Rattle.dcr_set.specs.EventSet.{has}
-use Rattle.dcr_proj.specs.ProjectionModel.{local_of, EffectsFit}
-use Rattle.dcr_proj.proofs.RowLemmas.{lent_row, no_row}
-use Rattle.dcr_proj.proofs.ProjectionLemmas.{below_room, effects_fit, effects_missing}
-use Rattle.std.specs.Prelude.{Some}
+use Rattle.std.proofs.Common.{◌≡◌, ◌<◌, length, get_or, Some, None, ap, sym, subst, ◌∙◌}
+use Rattle.std.specs.Option.{option_copied}
+use Rattle.dcr_proj.specs.Rows.{effect_masks, lent_effects, AreEffects}
+use Rattle.dcr_proj.proofs.MaskLemmas.{lent_mask}
+use Rattle.dcr_proj.proofs.ProjectionLemmas.{effects_read}
 use Rattle.dcr_proj.proofs.projection.Projection.effects.Goals as goal
-use Rattle.dcr_proj.proofs.projection.Projection.effects.Goals.{After-deref}
+use Rattle.dcr_proj.proofs.projection.Projection.effects.Goals.{After-index-row}
 
-member : (c : After-deref) → has c.self.inside.alphabet c.args.e ≡ true
-member c = subst (λ P. has P.alphabet c.args.e ≡ true) (sym c.self.view_is) c.requires
+read : (c : After-index-row) → AreEffects c.self.inside.masks.items c.index-row.result.now × (get_or c.args.self.now.effects c.args.e None ≡ Some (effect_masks c.self.inside.masks.items c.index-row.result.now))
+read c = effects_read c.self.inside c.self.invariant c.args.self.now c.self.view_is c.args.e c.from.result (c.from.ensures ∙ c.e.view_is) c.index-row.result.now c.requires c.index-row.ensures
 
-fits : (c : After-deref) → EffectsFit (length c.self.inside.own) c.self.inside.alphabet c.args.e (Some c.deref.result.now)
-fits c =
-    effects_fit (local_of c.self.inside) c.self.invariant c.args.e c.deref.result.now (member c)
-    (lent_row c.self.inside.effects.items c.from.result c.args.e c.index.result.now c.in-Some.row c.deref.result.now (c.from.ensures ∙ c.e.view_is)
-    (omega (arith, c.self.invariant.as_many_effects, c.self.invariant.alphabet, below_room c.self.inside.alphabet c.args.e (member c))) c.index.ensures c.in-Some.is c.deref.ensures)
+pub lend_mask-requires-clause-number : goal.lend_mask-requires-clause-number
+lend_mask-requires-clause-number c =
+    subst (λ masks. c.index-row.result.now.response < length masks) (sym c.deref.ensures.value) (read (goal.at.lend_mask-requires-clause-number c).After-index-row).0.response
 
-pub returns-clause-response : goal.returns-clause-response
-returns-clause-response c = (fits c).0 ∙ ap (λ P. length P.own) c.self.view_is
+pub lend_mask-requires-2-clause-number : goal.lend_mask-requires-2-clause-number
+lend_mask-requires-2-clause-number c =
+    subst (λ masks. c.index-row.result.now.include < length masks) (sym c.deref-2.ensures.value) (read (goal.at.lend_mask-requires-2-clause-number c).After-index-row).0.include
 
-pub returns-clause-include : goal.returns-clause-include
-returns-clause-include c = (fits c).1 ∙ ap (λ P. length P.own) c.self.view_is
+pub lend_mask-requires-3-clause-number : goal.lend_mask-requires-3-clause-number
+lend_mask-requires-3-clause-number c =
+    subst (λ masks. c.index-row.result.now.exclude < length masks) (sym c.deref-3.ensures.value) (read (goal.at.lend_mask-requires-3-clause-number c).After-index-row).0.exclude
 
-pub returns-clause-exclude : goal.returns-clause-exclude
-returns-clause-exclude c = (fits c).2 ∙ ap (λ P. length P.own) c.self.view_is
+pub lend_mask-requires-4-clause-number : goal.lend_mask-requires-4-clause-number
+lend_mask-requires-4-clause-number c =
+    subst (λ masks. c.index-row.result.now.cancel < length masks) (sym c.deref-4.ensures.value) (read (goal.at.lend_mask-requires-4-clause-number c).After-index-row).0.cancel
 
-pub returns-clause-cancel : goal.returns-clause-cancel
-returns-clause-cancel c = (fits c).3 ∙ ap (λ P. length P.own) c.self.view_is
-
-pub unreachable-requires : goal.unreachable-requires
-unreachable-requires c =
-    let owned : has c.self.inside.alphabet c.args.e ≡ true = subst (λ P. has P.alphabet c.args.e ≡ true) (sym c.self.view_is) c.requires in
-    effects_missing (local_of c.self.inside) c.self.invariant c.args.e owned
-    (no_row c.self.inside.effects.items c.from.result c.args.e c.index.result.now (c.from.ensures ∙ c.e.view_is)
-    (omega (arith, c.self.invariant.as_many_effects, c.self.invariant.alphabet, below_room c.self.inside.alphabet c.args.e owned)) c.index.ensures c.in-None.is)
+pub returns-clause-row : goal.returns-clause-row
+returns-clause-row c =
+    let p = c.self.inside in let row = c.index-row.result.now in
+    let response = lent_mask p.masks.items c.deref.result.now (length p.own) row.response (option_copied c.lend_mask.result) c.deref.ensures.value c.self.invariant.rooms c.lend_mask.ensures.mask in
+    let include = lent_mask p.masks.items c.deref-2.result.now (length p.own) row.include (option_copied c.lend_mask-2.result) c.deref-2.ensures.value c.self.invariant.rooms c.lend_mask-2.ensures.mask in
+    let exclude = lent_mask p.masks.items c.deref-3.result.now (length p.own) row.exclude (option_copied c.lend_mask-3.result) c.deref-3.ensures.value c.self.invariant.rooms c.lend_mask-3.ensures.mask in
+    let cancel = lent_mask p.masks.items c.deref-4.result.now (length p.own) row.cancel (option_copied c.lend_mask-4.result) c.deref-4.ensures.value c.self.invariant.rooms c.lend_mask-4.ensures.mask in
+    let lent : effect_masks p.masks.items row ≡ lent_effects (length p.own) (record { response = c.lend_mask.result; include = c.lend_mask-2.result; exclude = c.lend_mask-3.result; cancel = c.lend_mask-4.result }) = cc in
+    (read (goal.at.returns-clause-row c).After-index-row).1 ∙ ap Some (lent ∙ ap (λ P. lent_effects (length P.own) (record { response = c.lend_mask.result; include = c.lend_mask-2.result; exclude = c.lend_mask-3.result; cancel = c.lend_mask-4.result })) c.self.view_is)

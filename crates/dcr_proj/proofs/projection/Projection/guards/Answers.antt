@@ -1,30 +1,26 @@
-use Rattle.std.proofs.Common.{◌≡◌, true, ap, sym, subst, ◌∙◌, length, arith}
-use Rattle.dcr_set.specs.EventSet.{has}
-use Rattle.dcr_proj.specs.ProjectionModel.{local_of, GuardsFit}
-use Rattle.dcr_proj.proofs.RowLemmas.{lent_row, no_row}
-use Rattle.dcr_proj.proofs.ProjectionLemmas.{below_room, guards_fit, guards_missing}
-use Rattle.std.specs.Prelude.{Some}
+use Rattle.std.proofs.Common.{◌≡◌, ◌<◌, length, get_or, Some, None, ap, sym, subst, ◌∙◌}
+use Rattle.std.specs.Option.{option_copied}
+use Rattle.dcr_proj.specs.Rows.{guard_masks, lent_guards, AreGuards}
+use Rattle.dcr_proj.proofs.MaskLemmas.{lent_mask}
+use Rattle.dcr_proj.proofs.ProjectionLemmas.{guards_read}
 use Rattle.dcr_proj.proofs.projection.Projection.guards.Goals as goal
-use Rattle.dcr_proj.proofs.projection.Projection.guards.Goals.{After-deref}
+use Rattle.dcr_proj.proofs.projection.Projection.guards.Goals.{After-index-row}
 
-member : (c : After-deref) → has c.self.inside.own c.args.e ≡ true
-member c = subst (λ P. has P.own c.args.e ≡ true) (sym c.self.view_is) c.requires
+read : (c : After-index-row) → AreGuards c.self.inside.masks.items c.index-row.result.now × (get_or c.args.self.now.guards c.args.e None ≡ Some (guard_masks c.self.inside.masks.items c.index-row.result.now))
+read c = guards_read c.self.inside c.self.invariant c.args.self.now c.self.view_is c.args.e c.from.result (c.from.ensures ∙ c.e.view_is) c.index-row.result.now c.requires c.index-row.ensures
 
-fits : (c : After-deref) → GuardsFit (length c.self.inside.own) c.self.inside.own c.args.e (Some c.deref.result.now)
-fits c =
-    guards_fit (local_of c.self.inside) c.self.invariant c.args.e c.deref.result.now (member c)
-    (lent_row c.self.inside.guards.items c.from.result c.args.e c.index.result.now c.in-Some.row c.deref.result.now (c.from.ensures ∙ c.e.view_is)
-    (omega (arith, c.self.invariant.as_many_guards, below_room c.self.inside.own c.args.e (member c))) c.index.ensures c.in-Some.is c.deref.ensures)
+pub lend_mask-requires-clause-number : goal.lend_mask-requires-clause-number
+lend_mask-requires-clause-number c =
+    subst (λ masks. c.index-row.result.now.condition < length masks) (sym c.deref.ensures.value) (read (goal.at.lend_mask-requires-clause-number c).After-index-row).0.condition
 
-pub returns-clause-condition : goal.returns-clause-condition
-returns-clause-condition c = (fits c).0 ∙ ap (λ P. length P.own) c.self.view_is
+pub lend_mask-requires-2-clause-number : goal.lend_mask-requires-2-clause-number
+lend_mask-requires-2-clause-number c =
+    subst (λ masks. c.index-row.result.now.milestone < length masks) (sym c.deref-2.ensures.value) (read (goal.at.lend_mask-requires-2-clause-number c).After-index-row).0.milestone
 
-pub returns-clause-milestone : goal.returns-clause-milestone
-returns-clause-milestone c = (fits c).1 ∙ ap (λ P. length P.own) c.self.view_is
-
-pub unreachable-requires : goal.unreachable-requires
-unreachable-requires c =
-    let owned : has c.self.inside.own c.args.e ≡ true = subst (λ P. has P.own c.args.e ≡ true) (sym c.self.view_is) c.requires in
-    guards_missing (local_of c.self.inside) c.self.invariant c.args.e owned
-    (no_row c.self.inside.guards.items c.from.result c.args.e c.index.result.now (c.from.ensures ∙ c.e.view_is)
-    (omega (arith, c.self.invariant.as_many_guards, c.self.invariant.alphabet, below_room c.self.inside.own c.args.e owned)) c.index.ensures c.in-None.is)
+pub returns-clause-row : goal.returns-clause-row
+returns-clause-row c =
+    let p = c.self.inside in let row = c.index-row.result.now in
+    let condition = lent_mask p.masks.items c.deref.result.now (length p.own) row.condition (option_copied c.lend_mask.result) c.deref.ensures.value c.self.invariant.rooms c.lend_mask.ensures.mask in
+    let milestone = lent_mask p.masks.items c.deref-2.result.now (length p.own) row.milestone (option_copied c.lend_mask-2.result) c.deref-2.ensures.value c.self.invariant.rooms c.lend_mask-2.ensures.mask in
+    let lent : guard_masks p.masks.items row ≡ lent_guards (length p.own) (record { condition = c.lend_mask.result; milestone = c.lend_mask-2.result }) = cc in
+    (read (goal.at.returns-clause-row c).After-index-row).1 ∙ ap Some (lent ∙ ap (λ P. lent_guards (length P.own) (record { condition = c.lend_mask.result; milestone = c.lend_mask-2.result })) c.self.view_is)

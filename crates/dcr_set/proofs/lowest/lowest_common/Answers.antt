@@ -1,0 +1,10 @@
+use Rattle.std.proofs.Common.{◌&&◌, ap, ◌∙◌, arith}
+use Rattle.dcr_set.specs.Bits.{bit}
+use Rattle.dcr_set.proofs.LeastLemmas.{least-room}
+use Rattle.dcr_set.proofs.lowest.lowest_common.Goals as goal
+
+pub returns-then-room-le256 : goal.returns-then-room-le256
+returns-then-room-le256 c = c.lowest_common_below.ensures ∙ least-room c.args.room 256 _ (omega arith) (λ k past. ap (λ t. t && bit c.args.other.now k) (c.requires.clear k past))
+
+pub returns-else-room-le256 : goal.returns-else-room-le256
+returns-else-room-le256 c = c.lowest_common_below-else-room-le256.ensures ∙ least-room c.args.room 1024 _ (omega arith) (λ k past. ap (λ t. t && bit c.args.other.now k) (c.requires.clear k past))

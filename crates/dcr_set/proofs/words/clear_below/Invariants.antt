@@ -1,9 +1,0 @@
-use Rattle.std.proofs.Common.{◌≡◌, ℕ, ◌<◌, ◌≤◌, length, get_or}
-use Rattle.dcr_set.proofs.words.clear_below.Given as goal
-
-abbrev pub invariant-loop-i : goal.invariant-loop-i
-invariant-loop-i l = record {
-  len : length l.words ≡ 16;
-  done : (j : ℕ) → j < l.i → get_or l.words j 0 ≡ 0;
-  rest : (j : ℕ) → l.i ≤ j → get_or l.words j 0 ≡ get_or l.fn.words j 0;
-}

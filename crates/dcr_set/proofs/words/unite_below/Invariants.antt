@@ -1,0 +1,10 @@
+use Rattle.std.proofs.Common.{◌≡◌, ℕ, ◌<◌, ◌≤◌, length, get_or}
+use Rattle.std.specs.Prelude.{bit_or}
+use Rattle.dcr_set.proofs.words.unite_below.Given as goal
+
+abbrev pub invariant-loop-i : goal.invariant-loop-i
+invariant-loop-i l = record {
+  len : length l.words ≡ 16;
+  done : (j : ℕ) → j < l.i → get_or l.words j 0 ≡ bit_or (get_or l.fn.words j 0) (get_or l.other j 0);
+  rest : (j : ℕ) → l.i ≤ j → get_or l.words j 0 ≡ get_or l.fn.words j 0;
+}
