@@ -1,60 +1,113 @@
 #!/usr/bin/env python3
 """Times the program on the largest cases, and on inputs of 16 MB beside the JSON reader alone.
 
-    bench/bench.py            all tables
-    bench/bench.py run        the two largest cases
-    bench/bench.py replay     the replay of their reports
-    bench/bench.py read       the inputs of 16 MB
+    bench/bench.py                          all tables
+    bench/bench.py run [--instructions]     runs of the largest cases
+    bench/bench.py replay [--instructions]  the replay of reports of such runs
+    bench/bench.py read                     the inputs of 16 MB
 
-Each line is the best of three runs: wall time, processor time (user and system) and peak memory of the process. The
-ratio of the second table is that of the processor times.
+Each line is of three runs: the least processor time (user and system), the least wall time and the greatest peak memory
+of the process. With `--instructions` these two tables tell how many million instructions it takes too, counted by
+valgrind's callgrind, for which the runs take some four minutes more and the replays half a one; without the word, and
+where no `valgrind` is on the path, a dash stands there. Below "at most" stands what is wanted of the column before.
+The ratio of the last table is that of the processor times.
+The program is `crates/dcr/out/dcr`, or the one that the environment variable DCR names.
 The inputs are made anew from fixed seeds; nothing is kept. Build first: `./dcr` builds the program, and
 `rt run` in crates/bench_json the JSON reader alone.
 """
 
 import os
 import random
+import re
+import shutil
 import subprocess
 import sys
 import tempfile
-import time
 
 TOP = os.path.dirname(os.path.dirname(os.path.abspath(__file__)))
-PROGRAM = [os.path.join(TOP, "crates/dcr/out/dcr"), "run"]
+PROGRAM = [os.path.abspath(os.environ.get("DCR", os.path.join(TOP, "crates/dcr/out/dcr"))), "run"]
 REPLAY = [PROGRAM[0], "replay"]
 READER = [os.path.join(TOP, "crates/bench_json/out/bench_json")]
+VALGRIND = shutil.which("valgrind")
 MOST_BYTES = 16_777_216
+SESSIONS = 1024
+
+# Runs a command once. The peak memory that the kernel tells of a process is at least what it had before its program
+# began. Begun from here that is 5 MB; begun from the process that made the input it would be all that this one has.
+ONCE = """
+import os, sys, time
+begun = time.monotonic()
+pid = os.fork()
+if pid == 0:
+    os.dup2(os.open(sys.argv[1], os.O_RDONLY), 0)
+    os.dup2(os.open(os.devnull, os.O_WRONLY), 1)
+    os.execv(sys.argv[2], sys.argv[2:])
+_, status, usage = os.wait4(pid, 0)
+seconds = time.monotonic() - begun
+print(os.WEXITSTATUS(status) if os.WIFEXITED(status) else -os.WTERMSIG(status))
+print(seconds, usage.ru_utime + usage.ru_stime, usage.ru_maxrss / 1024)
+"""
 
 
-def measure(command, text):
-    """The best of three runs: (status, seconds, processor seconds, peak MB)."""
+def measure(command, text, times=3):
+    """Of so many runs: (status, least seconds, least processor seconds, greatest peak MB)."""
     with tempfile.NamedTemporaryFile() as file:
         file.write(text)
         file.flush()
         runs = []
-        for _ in range(3):
-            begun = time.monotonic()
-            pid = os.fork()
-            if pid == 0:
-                os.dup2(os.open(file.name, os.O_RDONLY), 0)
-                os.dup2(os.open(os.devnull, os.O_WRONLY), 1)
-                os.execv(command[0], command)
-            _, status, usage = os.wait4(pid, 0)
-            seconds = time.monotonic() - begun
-            runs.append((os.waitstatus_to_exitcode(status), seconds, usage.ru_utime + usage.ru_stime, usage.ru_maxrss / 1024))
-    return min(runs, key=lambda run: run[1])
+        for _ in range(times):
+            told = subprocess.run([sys.executable, "-I", "-S", "-c", ONCE, file.name, *command], stdout=subprocess.PIPE, check=True).stdout
+            status, *figures = told.split()
+            runs.append((int(status), *map(float, figures)))
+    statuses, seconds, cpu, peak = zip(*runs)
+    return statuses[0], min(seconds), min(cpu), max(peak)
 
 
-def largest(atoms, sites, seed):
-    """A case of 4,096 relations, 1,024 sessions and 200,000 calls of all kinds."""
-    draw = random.Random(seed)
-    names = ["e%d" % k for k in range(atoms)]
+def instructions(command, text):
+    """How many million instructions a run takes, by callgrind; None where there is no valgrind. They are half a percent
+    more or fewer as the stack lies, so that the environment is empty and the program's path always as long."""
+    if VALGRIND is None:
+        return None
+    with tempfile.TemporaryFile() as file, tempfile.TemporaryDirectory() as folder:
+        file.write(text)
+        file.seek(0)
+        program = os.path.join(folder, "program")
+        os.symlink(command[0], program)
+        counting = [VALGRIND, "--tool=callgrind", "--callgrind-out-file=/dev/null", program, *command[1:]]
+        how = {"env": {}, "cwd": "/", "stdin": file, "stdout": subprocess.DEVNULL, "stderr": subprocess.PIPE}
+        told = subprocess.run(counting, check=False, **how).stderr.decode()
+    found = re.search(r"Collected : (\d+)", told)
+    if found is None:
+        sys.exit("valgrind counts nothing:\n" + told)
+    return int(found.group(1)) / 1e6
+
+
+def report_of(text):
+    """The report of the run of a case."""
+    return subprocess.run(PROGRAM, input=text, stdout=subprocess.PIPE, check=True).stdout
+
+
+def named(letter, count, width=1):
+    """Names of a letter and a number, of so many bytes at least."""
+    return ["%s%0*d" % (letter, width - 1, k) for k in range(count)]
+
+
+def members(names, related, owned):
+    """The members of a case file but its sessions; a site owns the events of its list."""
+    events = ",".join('{"name":"%s"}' % name for name in names)
+    cover = ",".join('{"site":"%s","events":[%s]}' % (place, ",".join('"%s"' % name for name in own)) for place, own in owned)
+    return '"graph":{"events":[%s],"relations":[%s]},"cover":[%s]' % (events, ",".join(related), cover)
+
+
+def opening(draw, names, places, relations=4096):
+    """The members of a case of so many relations, in which each event is owned by one site or two."""
+    atoms, sites = len(names), len(places)
     owned = [set() for _ in range(sites)]
     for k in range(atoms):
         owned[k % sites].add(k)
         owned[draw.randrange(sites)].add(k)
-    relations = []
-    while len(relations) < 4096:
+    related = []
+    while len(related) < relations:
         kind = draw.choice(["condition", "response", "milestone", "include", "exclude"])
         a, b = draw.randrange(atoms), draw.randrange(atoms)
         if kind in ("condition", "milestone"):
@@ -63,31 +116,92 @@ def largest(atoms, sites, seed):
             a, b = min(a, b), max(a, b)
         if kind in ("include", "exclude"):
             kind = "include" if (a + b) % 4 else "exclude"
-        relations.append('["%s","%s","%s"]' % (kind, names[a], names[b]))
-    sessions = [[] for _ in range(1024)]
-    for j in range(200_000):
+        related.append('["%s","%s","%s"]' % (kind, names[a], names[b]))
+    return members(names, related, [(places[i], [names[k] for k in sorted(own)]) for i, own in enumerate(owned)])
+
+
+def mixed(draw, names, places, count):
+    """So many calls of all kinds, most of them executions by a site that owns the event."""
+    atoms, sites = len(names), len(places)
+    calls = []
+    for _ in range(count):
         e, kind = draw.randrange(atoms), draw.randrange(20)
         if kind == 0:
-            call = "look s%d" % draw.randrange(sites)
+            calls.append("look %s" % places[draw.randrange(sites)])
         elif kind == 1:
-            call = "enabled s%d" % draw.randrange(sites)
+            calls.append("enabled %s" % places[draw.randrange(sites)])
         elif kind == 2:
-            call = "accepting"
+            calls.append("accepting")
         else:
-            call = "exec s%d %s" % (e % sites, names[e])
-        sessions[j % 1024].append('"%s"' % call)
-    events = ",".join('{"name":"%s"}' % name for name in names)
-    cover = ",".join('{"site":"s%d","events":[%s]}' % (i, ",".join('"%s"' % names[k] for k in sorted(own))) for i, own in enumerate(owned))
-    calls = ",".join("[" + ",".join(session) + "]" for session in sessions)
-    return ('{"graph":{"events":[%s],"relations":[%s]},"cover":[%s],"sessions":[%s]}' % (events, ",".join(relations), cover, calls)).encode()
+            calls.append("exec %s %s" % (places[e % sites], names[e]))
+    return calls
 
 
-def looks():
-    """A case whose 200,000 calls all look at a site of 1,024 atoms."""
-    events = ",".join('{"name":"e%d"}' % k for k in range(1024))
-    owned = ",".join('"e%d"' % k for k in range(1024))
-    calls = ",".join(['"look s"'] * 200_000)
-    return ('{"graph":{"events":[%s]},"cover":[{"site":"s","events":[%s]}],"sessions":[[%s]]}' % (events, owned, calls)).encode()
+def dealt(calls):
+    """The calls by sessions, one to each in turn."""
+    return [calls[k::SESSIONS] for k in range(SESSIONS)]
+
+
+def case_file(opened, sessions):
+    listed = ",".join("[%s]" % ",".join('"%s"' % call for call in calls) for calls in sessions)
+    return ('{%s,"sessions":[%s]}' % (opened, listed)).encode()
+
+
+def largest(atoms, sites, seed):
+    """A case of 4,096 relations, 1,024 sessions and 200,000 calls of all kinds."""
+    draw = random.Random(seed)
+    names, places = named("e", atoms), named("s", sites)
+    opened = opening(draw, names, places)
+    return case_file(opened, dealt(mixed(draw, names, places, 200_000)))
+
+
+def looks(atoms):
+    """A case whose 200,000 calls all look at a site that owns all atoms."""
+    events = ",".join('{"name":"e%d"}' % k for k in range(atoms))
+    owned = ",".join('"e%d"' % k for k in range(atoms))
+    return case_file('"graph":{"events":[%s]},"cover":[{"site":"s","events":[%s]}]' % (events, owned), [["look s"] * 200_000])
+
+
+def questions(atoms, sites, seed):
+    """A case like the largest whose 200,000 calls all ask what is enabled, round the sites."""
+    places = named("s", sites)
+    opened = opening(random.Random(seed), named("e", atoms), places)
+    return case_file(opened, dealt(["enabled %s" % places[k % sites] for k in range(200_000)]))
+
+
+def everywhere():
+    """A case of executions that are each done at all 64 sites: each site owns all events, which are executed round 195 times."""
+    names, places, rounds = named("e", 1024), named("s", 64), 195
+    calls = ["exec %s %s" % (places[(turn + k) % 64], name) for turn in range(rounds) for k, name in enumerate(names)]
+    opened = members(names, [], [(place, names) for place in places])
+    return case_file(opened, [calls[k * rounds : (k + 1) * rounds] for k in range(SESSIONS)])
+
+
+def long_names(atoms, sites, seed):
+    """A case like the largest, of 200,000 executions and with names of 64 bytes for the events."""
+    draw = random.Random(seed)
+    names, places = named("e", atoms, 64), named("s", sites)
+    opened = opening(draw, names, places)
+    calls = ["exec %s %s" % (places[e % sites], names[e]) for e in (draw.randrange(atoms) for _ in range(200_000))]
+    return case_file(opened, dealt(calls))
+
+
+# The case, its calls, and how many million instructions and MB its run takes at most.
+RUNS = [
+    ("256 atoms, 16 sites, 200,000 calls", lambda: largest(256, 16, 1), 200_000, 750, 26),
+    ("1,024 atoms, 64 sites, 200,000 calls", lambda: largest(1024, 64, 2), 200_000, 850, 32),
+    ("256 atoms, 200,000 looks", lambda: looks(256), 200_000, 2300, 42),
+    ("1,024 atoms, 200,000 looks", lambda: looks(1024), 200_000, None, None),
+    ("256 atoms, 16 sites, 200,000 enabled", lambda: questions(256, 16, 1), 200_000, 1000, None),
+    ("1,024 atoms, all at 64 sites, 199,680 done", everywhere, 199_680, None, None),
+]
+
+# The case, and how many million instructions the replay of its report takes at most.
+REPLAYS = [
+    ("256 atoms, 16 sites, 200,000 calls", lambda: largest(256, 16, 1), 700),
+    ("1,024 atoms, 64 sites, 200,000 calls", lambda: largest(1024, 64, 2), 800),
+    ("256 names of 64 bytes, 200,000 executions", lambda: long_names(256, 16, 4), None),
+]
 
 
 def filled(front, piece, back):
@@ -114,28 +228,32 @@ def read_inputs():
     yield "spaces, refused", b" " * MOST_BYTES
 
 
-def run_table():
-    print("%-34s %6s %9s %9s %9s %12s" % ("run", "status", "seconds", "cpu s", "peak MB", "calls/s"))
-    for name, text in [
-        ("256 atoms, 16 sites, 200,000 calls", largest(256, 16, 1)),
-        ("1,024 atoms, 64 sites, 200,000", largest(1024, 64, 2)),
-        ("1,024 atoms, 200,000 looks", looks()),
-    ]:
+def told(number):
+    return "-" if number is None else "%.0f" % number
+
+
+def run_table(is_counted):
+    columns = ("run", "status", "M instr", "at most", "cpu s", "seconds", "peak MB", "at most", "calls/s")
+    print("%-42s %6s %9s %8s %8s %8s %8s %8s %9s" % columns)
+    for name, make, calls, most, most_peak in RUNS:
+        text = make()
         status, seconds, cpu, peak = measure(PROGRAM, text)
-        print("%-34s %6d %9.2f %9.2f %9.1f %12.0f" % (name, status, seconds, cpu, peak, 200_000 / seconds))
+        count = told(instructions(PROGRAM, text) if is_counted else None)
+        row = (name, status, count, told(most), cpu, seconds, peak, told(most_peak), calls / seconds)
+        print("%-42s %6d %9s %8s %8.2f %8.2f %8.1f %8s %9.0f" % row, flush=True)
 
 
-def replay_table():
-    columns = ("replay", "report MB", "status", "seconds", "cpu s", "peak MB", "run s", "run cpu")
-    print("%-34s %9s %6s %9s %9s %9s | %8s %8s" % columns)
-    for name, text in [
-        ("256 atoms, 16 sites, 200,000 calls", largest(256, 16, 1)),
-        ("1,024 atoms, 64 sites, 200,000", largest(1024, 64, 2)),
-    ]:
-        report = subprocess.run(PROGRAM, input=text, stdout=subprocess.PIPE, check=True).stdout
+def replay_table(is_counted):
+    columns = ("replay", "status", "M instr", "at most", "cpu s", "seconds", "peak MB", "report MB", "run cpu", "run s")
+    print("%-42s %6s %9s %8s %8s %8s %8s %9s | %8s %8s" % columns)
+    for name, make, most in REPLAYS:
+        text = make()
+        report = report_of(text)
         _, run, run_cpu, _ = measure(PROGRAM, text)
         status, seconds, cpu, peak = measure(REPLAY, report)
-        print("%-34s %9.1f %6d %9.2f %9.2f %9.1f | %8.2f %8.2f" % (name, len(report) / 1e6, status, seconds, cpu, peak, run, run_cpu))
+        count = told(instructions(REPLAY, report) if is_counted else None)
+        row = (name, status, count, told(most), cpu, seconds, peak, len(report) / 1e6, run_cpu, run)
+        print("%-42s %6d %9s %8s %8.2f %8.2f %8.1f %9.1f | %8.2f %8.2f" % row, flush=True)
 
 
 def read_table():
@@ -148,10 +266,17 @@ def read_table():
         print("%-40s %6d %9.2f %9.2f %9.1f | %8.2f %8.2f %8.1f %6.2f" % row)
 
 
-if __name__ == "__main__":
-    if sys.argv[1:] in ([], ["run"]):
-        run_table()
-    if sys.argv[1:] in ([], ["replay"]):
-        replay_table()
-    if sys.argv[1:] in ([], ["read"]):
+def main(words):
+    is_counted = words[1:] == ["--instructions"] and words[0] != "read"
+    if words[:1] not in ([], ["run"], ["replay"], ["read"]) or (words[1:] and not is_counted):
+        sys.exit(__doc__)
+    if words[:1] in ([], ["run"]):
+        run_table(is_counted)
+    if words[:1] in ([], ["replay"]):
+        replay_table(is_counted)
+    if words[:1] in ([], ["read"]):
         read_table()
+
+
+if __name__ == "__main__":
+    main(sys.argv[1:])
