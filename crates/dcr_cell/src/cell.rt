@@ -145,17 +145,21 @@ fn wait_besides(verdict: &mut Outcome, waits: Option<EventId>)
     }
 }
 
-// The same where it waits for one. It stands by itself, since room for an outcome is cleared where it begins.
-#[inline(never)]
+// The same where it waits for one. A verdict that waits already is changed where it stands; the other stands by itself,
+// since room for an outcome is cleared where it begins.
 fn wait_for(verdict: &mut Outcome, event: EventId)
     ensures { (before : Option ℕ) → verdict.old ≡ verdict_of before → verdict.new ≡ verdict_of (lesser before (Some event)) }
 {
-    let before = match verdict {
-        Outcome::Waits(e) => Some(*e),
-        _ => None,
-    };
-    match EventId::lesser(before, Some(event)) {
-        None => *verdict = Outcome::AllDone,
-        Some(least) => *verdict = Outcome::Waits(least),
+    match verdict {
+        Outcome::Waits(least) => *least = EventId(least.0.min(event.0)),
+        _ => wait_first(verdict, event),
     }
+}
+
+// The verdict becomes that where a site waits for this event, and none was found to wait before.
+#[inline(never)]
+fn wait_first(verdict: &mut Outcome, event: EventId)
+    ensures { verdict.new ≡ verdict_of (Some event) }
+{
+    *verdict = Outcome::Waits(event);
 }

@@ -6,3 +6,4 @@ pub mod LocalLaws
 pub mod NamesLemmas
 pub mod CauseLemmas
 pub mod IndexLemmas
+pub mod JoinedLemmas

@@ -13,7 +13,7 @@ use Rattle.dcr_graph.specs.declared.table.Table.TheInside.{Inside}
 has-with_event : (r : Set) (b : ℕ) → b < length r → (y : ℕ) → has (with_event r b) y ≡ (eqb y b || has r y)
 has-with_event r b below y = has-those_all (length r) (λ k. eqb k b || has r k) (λ k past. ap (λ t. t || has r k) (ne_eqb k b (λ same. absurd (omega arith))) ∙ has_past r k past) y
 
-eqb_comm : (a b : ℕ) → eqb a b ≡ eqb b a
+pub eqb_comm : (a b : ℕ) → eqb a b ≡ eqb b a
 eqb_comm a b = elim (cases_eq a b) [ inl same ↦ eq-eqb a b same ∙ sym (eq-eqb b a (sym same)) | inr differ ↦ ne_eqb a b differ ∙ sym (ne_eqb b a (λ same. differ (sym same))) ]
 
 -- one pair more

@@ -6,12 +6,12 @@ use Rattle.dcr_graph.specs.GraphValue.{Flat}
 use Rattle.dcr_graph.specs.declared.graph.Graph.TheInside.{Inside}
 
 abbrev pub flat_of : Inside → Flat
-flat_of g = record { names = g.names.items; labels = g.labels.items; tables = g.tables.items }
+flat_of g = record { names = g.names; labels = g.labels.items; tables = g.tables.items }
 
 -- one label and, of each of the six kinds, one row for each name, and no name twice
 pub record FitsNames (g : Inside) : Type 0 where
-  pub most : length g.names.items ≤ 1024
-  pub as_many_labels : length g.labels.items ≡ length g.names.items
-  pub distinct : AreDistinct g.names.items
+  pub most : length g.names ≤ 1024
+  pub as_many_labels : length g.labels.items ≡ length g.names
+  pub distinct : AreDistinct g.names
   pub six_kinds : length g.tables.items ≡ 6
-  pub rows : All (λ table. length table ≡ length g.names.items) g.tables.items
+  pub rows : All (λ table. length table ≡ length g.names) g.tables.items

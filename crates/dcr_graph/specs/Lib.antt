@@ -8,6 +8,7 @@ pub mod Pairs
 pub mod Rows
 pub mod TableModel
 pub mod GraphValue
+pub mod AtomNamesModel
 pub mod GraphModel
 pub mod Laws
 pub mod IndexModel

@@ -1,6 +1,6 @@
 -- Names and labels as bytes of text, and the number that a name stands for in a list of names.
-use Rattle.std.specs.Prelude.{◌≡◌, ℕ, ◌<◌, Bool, false, ◌&&◌, ◌||◌, ◌==◌, List, [], ◌∷◌, length, Option, nat_le, slice_index_or}
-use Rattle.std.specs.List.{list_all}
+use Rattle.std.specs.Prelude.{◌≡◌, ℕ, ◌<◌, Bool, false, ◌&&◌, ◌||◌, ◌==◌, List, [], ◌∷◌, ◌++◌, codes, length, Option, nat_le, slice_index_or}
+use Rattle.std.specs.List.{flat_map, list_all}
 use Rattle.std.specs.Str.{bytes_eq}
 use Rattle.dcr_set.specs.Least.{least}
 
@@ -31,3 +31,7 @@ number_of names text = least (length names) (λ k. bytes_eq (slice_index_or name
 -- no two names are one text
 abbrev pub AreDistinct : List (List ℕ) → Type 0
 AreDistinct names = (i j : ℕ) → i < j → j < length names → bytes_eq (slice_index_or names i []) (slice_index_or names j []) ≡ false
+
+-- the names of these numbers, each behind a comma
+abbrev pub comma_names : List (List ℕ) → List ℕ → List ℕ
+comma_names names numbers = flat_map (λ k. codes "," ++ slice_index_or names k []) numbers

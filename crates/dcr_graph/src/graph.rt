@@ -2,7 +2,7 @@ ghost use Rattle.std.specs.Prelude.{◌≡◌, ◌≤◌, IfOk, replicate};
 ghost use Rattle.dcr_set.specs.EventSet.{no_event};
 
 use crate::table::Table;
-use crate::{Kind, Label, Name};
+use crate::{AtomNames, Kind, Label, Name};
 use dcr_set::{EventId, EventSet, NoMemory};
 use std::alloc::Global;
 use std::marker::Model;
@@ -34,7 +34,7 @@ impl From<NoMemory> for GraphStop {
 /// kind of relation. Contracts see it as `Flat`, whose relation is `rules_of`.
 #[derive(Drop)]
 pub struct Graph {
-    names: Vec<Name>,
+    names: AtomNames,
     labels: Vec<Label>,
     tables: Vec<Table>,
 }
@@ -52,11 +52,11 @@ impl Model for Graph {
 }
 
 impl Graph {
-    ghost use Rattle.std.specs.Prelude.{◌≡◌, ◌≢◌, ℕ, ◌<◌, ◌≤◌, ◌&&◌, ◌||◌, ◌==◌, length, None, vec_len, IfOk, IfErr, OnOk, slice_index_or, []};
-    ghost use Rattle.std.specs.List.{All};
+    ghost use Rattle.std.specs.Prelude.{◌≡◌, ◌≢◌, ℕ, ◌-◌, ◌<◌, ◌≤◌, ◌&&◌, ◌||◌, ◌==◌, length, None, vec_len, IfOk, IfErr, OnOk, slice_index_or, []};
+    ghost use Rattle.std.specs.List.{All, range_with_len};
     ghost use Rattle.dcr_set.specs.EventSet.{has, those};
     ghost use Rattle.dcr_set.specs.declared.id.TheConstants.{MAX_ATOMS};
-    ghost use Rattle.dcr_graph.specs.Names.{AreDistinct, number_of};
+    ghost use Rattle.dcr_graph.specs.Names.{AreDistinct, comma_names, number_of};
     ghost use Rattle.dcr_graph.specs.Rules.{same_kind};
     ghost use Rattle.dcr_graph.specs.declared.kind.Kind.{Kind};
     ghost use Rattle.dcr_graph.specs.GraphValue.{rules_of, flat};
@@ -89,18 +89,18 @@ impl Graph {
     /// The graph of these atoms and of a table of pairs for each kind, by its number. `Clash` comes exactly
     /// where an include pair is an exclude pair, with the least such pair. Takes no memory.
     pub fn of_tables(
-        names: Vec<Name>,
+        names: AtomNames,
         labels: Vec<Label>,
         tables: Vec<Table>,
     ) -> Result<Graph, GraphStop>
-        requires most { vec_len names ≤ MAX_ATOMS }
-        requires as_many_labels { vec_len labels ≡ vec_len names }
-        requires distinct { AreDistinct names.items }
+        requires most { length names ≤ MAX_ATOMS }
+        requires as_many_labels { vec_len labels ≡ length names }
+        requires distinct { AreDistinct names }
         requires six_kinds { vec_len tables ≡ 6 }
-        requires as_many_rows { All (λ table. length table ≡ vec_len names) tables.items }
-        ensures made { IfOk result (λ graph. graph ≡ flat names.items labels.items tables.items) }
-        ensures no_clash { OnOk result (first_clash (rules_of (flat names.items labels.items tables.items)) ≡ None) }
-        ensures clash { IfErr result (TellsClash (first_clash (rules_of (flat names.items labels.items tables.items)))) }
+        requires as_many_rows { All (λ table. length table ≡ length names) tables.items }
+        ensures made { IfOk result (λ graph. graph ≡ flat names labels.items tables.items) }
+        ensures no_clash { OnOk result (first_clash (rules_of (flat names labels.items tables.items)) ≡ None) }
+        ensures clash { IfErr result (TellsClash (first_clash (rules_of (flat names labels.items tables.items)))) }
         ensures no_memory_taken { result ≢ Err GraphStop.NoMemory }
     {
         let graph = Graph {
@@ -124,7 +124,8 @@ impl Graph {
         ensures labels { IfOk result (λ graph. graph.labels ≡ labels.items) }
         ensures related { IfOk result (λ graph. (kind : Kind) (a b : ℕ) → (rules_of graph).related kind a b ≡ is_listed [] kind a b) }
     {
-        let tables = empty_tables(alloc, names.len() as u16)?;
+        let names = AtomNames::new(alloc, names)?;
+        let tables = empty_tables(alloc, names.count())?;
         Ok(Graph {
             names,
             labels,
@@ -195,7 +196,7 @@ impl Graph {
         ensures most { length self.now.names ≤ MAX_ATOMS }
         ensures distinct { AreDistinct self.now.names }
     {
-        self.names.len() as u16
+        self.names.count()
     }
 
     /// The name of an atom.
@@ -203,7 +204,16 @@ impl Graph {
         requires { e < length self.now.names }
         ensures { result.now ≡ slice_index_or self.now.names e [] }
     {
-        &self.names[usize::from(e.0)]
+        self.names.name(e.0)
+    }
+
+    /// The names of the atoms from this one on and before the number, each behind a comma.
+    pub fn names_from(&self, from: EventId, to: u16) -> &[u8]
+        requires from { from ≤ to }
+        requires to { to ≤ length self.now.names }
+        ensures { result.now ≡ comma_names self.now.names (range_with_len from (to - from)) }
+    {
+        self.names.run(from.0, to)
     }
 
     /// The label of an atom.
@@ -252,11 +262,8 @@ impl Graph {
         ensures room { length result ≡ length self.now.names }
     {
         let mut sources = EventSet::new(self.atoms());
-        for number in 0..self.atoms() {
-            let e = EventId(number);
-            if targets.meets(self.targets(kind, e)) {
-                sources.insert(e);
-            }
+        for e in targets.iter() {
+            sources.union_with(self.sources(kind, e));
         }
         sources
     }

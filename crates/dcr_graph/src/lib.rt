@@ -1,6 +1,7 @@
 //! Names, the flat relation of a graph, markings, and why an event is blocked.
 #![tactic(auto)]
 
+mod atom_names;
 mod graph;
 mod index;
 mod kind;
@@ -10,6 +11,7 @@ mod marking;
 mod name;
 mod table;
 
+pub use atom_names::AtomNames;
 pub use graph::{Graph, GraphStop};
 pub use index::NameIndex;
 pub use kind::{Cause, Kind};

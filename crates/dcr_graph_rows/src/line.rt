@@ -265,7 +265,7 @@ fn assert_mark(
 fn marks_and_their_texts(rt: HostRuntime) -> Result<(), Fail> {
     let alloc = rt.alloc();
     let graph = graph_of(alloc, &[])?;
-    let rows: [(&str, SiteMark); 3] = [
+    let rows: [(&str, SiteMark); 4] = [
         (
             "executed - pending - included pm,s,gm,dt",
             SiteMark {
@@ -288,6 +288,14 @@ fn marks_and_their_texts(rt: HostRuntime) -> Result<(), Fail> {
                 executed: set(false, true, true, true),
                 pending: set(false, false, false, false),
                 included: set(false, true, false, true),
+            },
+        ),
+        (
+            "executed pm,gm pending pm,s,dt included pm,gm,dt",
+            SiteMark {
+                executed: set(true, false, true, false),
+                pending: set(true, true, false, true),
+                included: set(true, false, true, true),
             },
         ),
     ];

@@ -4,5 +4,6 @@ pub mod NameLemmas
 pub mod CallLemmas
 pub mod NumberLemmas
 pub mod ListLemmas
+pub mod RunLemmas
 pub mod MarkLemmas
 pub mod EntryLemmas

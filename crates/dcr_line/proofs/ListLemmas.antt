@@ -13,9 +13,9 @@ use Rattle.std.proofs.lemmas.Option.{option_and_then_some, same_Some}
 use Rattle.dcr_set.specs.EventSet.{Set, has, those, numbers, no_event, with_event}
 use Rattle.dcr_set.proofs.SetLemmas.{has-those, length-those, those-ext, those-has}
 use Rattle.dcr_set.proofs.NumbersLemmas.{numbers-ascend, numbers-below, numbers-those, passing, passing-ext, passing_first, passing_none, set_from_numbers}
-use Rattle.dcr_graph.specs.Names.{AreDistinct, is_letter, is_name, is_name_byte, number_of}
+use Rattle.dcr_graph.specs.Names.{AreDistinct, comma_names, is_letter, is_name, is_name_byte, number_of}
 use Rattle.dcr_line.specs.Known.{AreNames}
-use Rattle.dcr_line.specs.Line.{comma_names, list_text, name_of, names_text}
+use Rattle.dcr_line.specs.Line.{list_text, name_of, names_text}
 use Rattle.dcr_line.specs.MarkLine.{ascends_from, each, from_low, list_in, listed_in, set_numbered}
 use Rattle.dcr_line.specs.PiecesModel.{pieces_of}
 use Rattle.dcr_line.proofs.CallLemmas.{chosen, is_word}

@@ -1,8 +1,9 @@
 -- The texts of calls, lists, marks, outcomes and entries. A text is its words with one space between each two.
 -- Sites and atoms are shown by their names, which these words take as two lists.
 use Rattle.std.specs.Prelude.{ℕ, List, [], ◌∷◌, ◌++◌, codes, decimal, slice_index_or}
-use Rattle.std.specs.List.{flat_map, join_with_byte}
+use Rattle.std.specs.List.{join_with_byte}
 use Rattle.dcr_set.specs.EventSet.{Set, numbers}
+use Rattle.dcr_graph.specs.Names.{comma_names}
 use Rattle.dcr_journal.specs.declared.call.Call.{Call}
 use Rattle.dcr_journal.specs.declared.call.Call.TheVariants.{Exec, Look, Enabled, Accepting}
 use Rattle.dcr_journal.specs.declared.call.Outcome.{Outcome}
@@ -16,10 +17,6 @@ spaced words = join_with_byte 32 words
 -- the name of a site or an atom by its number
 abbrev pub name_of : List (List ℕ) → ℕ → List ℕ
 name_of names k = slice_index_or names k []
-
--- each name behind a comma
-abbrev pub comma_names : List (List ℕ) → List ℕ → List ℕ
-comma_names names events = flat_map (λ e. codes "," ++ name_of names e) events
 
 -- the names of these atoms with one comma between each two; `-` where there is none
 abbrev pub names_text : List (List ℕ) → List ℕ → List ℕ

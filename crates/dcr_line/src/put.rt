@@ -1,16 +1,17 @@
 // The words of lines, added to a text. Where memory runs out, what was added stays: the callers take it away.
-ghost use Rattle.std.specs.Prelude.{◌≡◌, ◌<◌, ◌++◌, length, codes, decimal, OnOk};
-ghost use Rattle.std.specs.List.{All};
+ghost use Rattle.std.specs.Prelude.{◌≡◌, ◌<◌, ◌++◌, length, drop, codes, decimal, OnOk};
+ghost use Rattle.dcr_set.specs.EventSet.{numbers_from};
+ghost use Rattle.dcr_graph.specs.Names.{comma_names};
 ghost use Rattle.dcr_graph.specs.Projection.{FitsAtoms};
 ghost use Rattle.dcr_journal.specs.Run.{IsInRange};
-ghost use Rattle.dcr_line.specs.Line.{call_text, comma_names, list_text, mark_text, outcome_text};
+ghost use Rattle.dcr_line.specs.Line.{call_text, list_text, mark_text, outcome_text};
 ghost use Rattle.dcr_line.specs.Fits.{FitsOutcome};
 ghost use Rattle.dcr_line.specs.Grown.{StartsWith};
 
 use dcr_graph::{Graph, Name};
 use dcr_journal::{Call, Outcome};
 use dcr_proj::Cover;
-use dcr_set::{EventIter, EventSet, NoMemory};
+use dcr_set::{EventSet, NoMemory};
 use dcr_text::decimal;
 
 /// Adds these bytes.
@@ -40,50 +41,48 @@ pub(crate) fn put_named(word: &[u8], name: &Name, out: &mut Vec<u8>) -> Result<(
     put(name.text().as_bytes(), out)
 }
 
-/// Adds a word and the list of a set behind it.
+/// Adds a word and the list of a set behind it: its events run by run, the first run without the comma before it.
 fn put_list(word: &[u8], set: &EventSet, graph: &Graph, out: &mut Vec<u8>) -> Result<(), NoMemory>
     requires { length set.now ≡ length graph.now.names }
     ensures added { OnOk result (out.new.items
         ≡ out.old.items ++ (word.now ++ list_text graph.now.names set.now)) }
     ensures kept { StartsWith out.old.items out.new.items }
 {
-    let mut events = set.iter();
-    match events.next() {
-        None => {
-            put(word, out)?;
-            put(b"-", out)
-        }
+    put(word, out)?;
+    match set.first() {
+        None => put(b"-", out),
         Some(first) => {
-            put_named(word, graph.name(first), out)?;
-            put_more(events, graph, out)
+            let end = set.first_missing_from(first.0);
+            put(behind_first(graph.names_from(first, end)), out)?;
+            put_runs(set, end, graph, out)
         }
     }
 }
 
-/// Adds the names of these events, each behind a comma.
-fn put_more(events: EventIter<'_>, graph: &Graph, out: &mut Vec<u8>) -> Result<(), NoMemory>
-    requires { All (λ e. e < length graph.now.names) events }
+// What stands behind the first byte of a text.
+fn behind_first(text: &[u8]) -> &[u8]
+    requires { 0 < length text.now }
+    ensures { result.now ≡ drop 1 text.now }
+{
+    &text[1..]
+}
+
+/// Adds the names of the events from this number on, each behind a comma: those of a run in one piece.
+fn put_runs(set: &EventSet, from: u16, graph: &Graph, out: &mut Vec<u8>) -> Result<(), NoMemory>
+    requires { length set.now ≡ length graph.now.names }
     ensures added { OnOk result (out.new.items
-        ≡ out.old.items ++ comma_names graph.now.names events.entry) }
+        ≡ out.old.items ++ comma_names graph.now.names (numbers_from set.now from)) }
     ensures kept { StartsWith out.old.items out.new.items }
 {
-    for e in events {
-        put_comma(out)?;
-        put(graph.name(e).text().as_bytes(), out)?;
+    let mut next = from;
+    while let Some(first) = set.first_from(next) {
+        next = set.first_missing_from(first.0);
+        put(graph.names_from(first, next), out)?;
     }
     Ok(())
 }
 
-/// Adds a comma: one byte, without a copy of a slice.
-fn put_comma(out: &mut Vec<u8>) -> Result<(), NoMemory>
-    ensures added { OnOk result (out.new.items ≡ out.old.items ++ codes ",") }
-    ensures kept { StartsWith out.old.items out.new.items }
-{
-    out.push(b',')?;
-    Ok(())
-}
-
-/// Adds a space, as one byte too.
+/// Adds a space: one byte, without a copy of a slice.
 pub(crate) fn put_space(out: &mut Vec<u8>) -> Result<(), NoMemory>
     ensures added { OnOk result (out.new.items ≡ out.old.items ++ codes " ") }
     ensures kept { StartsWith out.old.items out.new.items }

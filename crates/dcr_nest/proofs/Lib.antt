@@ -3,3 +3,4 @@ pub mod AtomLemmas
 pub mod MarkLemmas
 pub mod RowLemmas
 pub mod FlatLemmas
+pub mod HandedLemmas

@@ -1,6 +1,6 @@
-ghost use Rattle.std.specs.Prelude.{◌≡◌, ℕ, ◌<◌, ◌≤◌, false, ◌||◌, [], length, map, replicate, IfOk, slice_set, slice_index_or};
+ghost use Rattle.std.specs.Prelude.{◌≡◌, ℕ, ◌<◌, ◌≤◌, false, ◌||◌, [], length, map, IfOk, slice_index_or};
 ghost use Rattle.std.specs.List.{All, list_any, range_with_len};
-ghost use Rattle.dcr_set.specs.EventSet.{has, no_event, union};
+ghost use Rattle.dcr_set.specs.EventSet.{has};
 ghost use Rattle.dcr_graph.specs.Pairs.{Pair, AreInRange};
 ghost use Rattle.dcr_graph.specs.Rows.{row, leads};
 ghost use Rattle.dcr_graph.specs.Rules.{kind_number};
@@ -9,6 +9,7 @@ ghost use Rattle.dcr_nest.specs.Nest.{names_of, labels_of};
 ghost use Rattle.dcr_nest.specs.FlatRelation.{gathers, related_rows};
 
 use crate::Node;
+use crate::sets::{add, empty};
 use crate::tree::Tree;
 use dcr_graph::{Kind, Label, Name, Table};
 use dcr_set::{EventSet, NoMemory};
@@ -90,18 +91,6 @@ fn rows(
     at(alloc, tree.atoms(), &spread)
 }
 
-// So many empty sets.
-fn empty(alloc: Global, count: usize, room: u16) -> Result<Vec<EventSet>, NoMemory>
-    requires { room ≤ 1024 }
-    ensures { IfOk result (λ sets. sets.items ≡ replicate count (no_event room)) }
-{
-    let mut sets = Vec::with_capacity(alloc, count)?;
-    for _ in 0..count {
-        sets.push(EventSet::new(room))?;
-    }
-    Ok(sets)
-}
-
 // Adds to the set of the first node of each relation of the kind the atoms below its second.
 fn gather(rows: &mut Vec<EventSet>, below: &[EventSet], relations: &[(Kind, u16, u16)], kind: usize)
     requires many { length rows.old.items ≡ length below.now }
@@ -138,16 +127,6 @@ fn hand_down(rows: &mut Vec<EventSet>, parents: &[Option<u16>])
             add(rows, x, &above);
         }
     }
-}
-
-// Adds to one of the sets.
-fn add(rows: &mut Vec<EventSet>, at: u16, more: &EventSet)
-    requires at { at < length rows.old.items }
-    requires room { length (row rows.old.items at) ≡ length more.now }
-    ensures { rows.new.items ≡ slice_set rows.old.items at (union (row rows.old.items at) more.now) }
-{
-    let row = &mut rows[usize::from(at)];
-    row.union_with(more);
 }
 
 // The sets of these nodes.

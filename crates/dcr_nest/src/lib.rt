@@ -5,6 +5,7 @@ mod flatten;
 mod laws;
 mod nested;
 mod node;
+mod sets;
 mod tree;
 
 pub use laws::nodes_are_below_as_parents_lead;

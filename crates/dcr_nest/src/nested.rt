@@ -1,6 +1,6 @@
 use crate::tree::{self, Tree};
 use crate::{Node, Version, flatten};
-use dcr_graph::{Graph, GraphStop, Kind, Name};
+use dcr_graph::{AtomNames, Graph, GraphStop, Kind, Name};
 use dcr_set::{EventId, EventSet, NoMemory};
 use std::alloc::Global;
 use std::marker::Model;
@@ -129,9 +129,10 @@ impl Nested {
         ensures clash { IfErr result (TellsClash (first_clash (flat_relation self.now))) }
     {
         let tree = Tree::of(alloc, &self.nodes)?;
-        let names = flatten::names(alloc, tree.atoms(), &self.nodes)?;
+        let texts = flatten::names(alloc, tree.atoms(), &self.nodes)?;
         let labels = flatten::labels(alloc, tree.atoms(), &self.nodes)?;
         let tables = flatten::tables(alloc, &tree, &self.relations)?;
+        let names = AtomNames::new(alloc, texts)?;
         Graph::of_tables(names, labels, tables)
     }
 }

@@ -6,6 +6,7 @@ ghost use Rattle.dcr_nest.specs.Tree.{Parents, AreEarlier, is_at_or_below, is_pa
 ghost use Rattle.dcr_nest.specs.Nest.{parents_of};
 
 use crate::Node;
+use crate::sets::{hand_up, own};
 use dcr_set::{EventId, EventSet, NoMemory};
 use std::alloc::Global;
 use std::marker::Model;
@@ -72,16 +73,13 @@ impl Tree {
         Ok(marked(&self.atoms, &marks))
     }
 
-    /// The atoms at or below each node.
+    /// The atoms at or below each node, in one walk over the nodes.
     pub(crate) fn all_below(&self, alloc: Global) -> Result<Vec<EventSet>, NoMemory>
         ensures { IfOk result (λ sets. sets.items
             ≡ map (atoms_below self.now) (range_with_len 0 (length self.now))) }
     {
-        let count = self.parents().len();
-        let mut sets = Vec::with_capacity(alloc, count)?;
-        for node in 0..count as u16 {
-            sets.push(self.below(alloc, node)?)?;
-        }
+        let mut sets = own(alloc, self.atoms(), self.parents().len())?;
+        hand_up(&mut sets, self.parents());
         Ok(sets)
     }
 }

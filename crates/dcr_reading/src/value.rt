@@ -11,6 +11,9 @@ use std::alloc::Global;
 /// have 64 bytes. The text of a graph within the limits is shorter.
 pub const MAX_BYTES: usize = 4_396_481;
 
+// That is just how long the text of a cover can be: 64 sites, each with its name and those of 1,024 atoms, all of 64 bytes.
+const _: () = prove!(MAX_BYTES == 64 * (11 + 1_024 * 67 - 1 + 10 + 64 + 2) + 63 + 2);
+
 /// The JSON value that the bytes are: its size is at most their number. None exactly where they are none.
 /// `NoMemory` where memory could not be had.
 pub fn read_json(alloc: Global, bytes: &[u8]) -> Result<Option<Value>, NoMemory>

@@ -6,14 +6,14 @@ use Rattle.std.proofs.lemmas.List.{get_or_past}
 use Rattle.std.proofs.lemmas.List.Elements.{All-head, All-tail}
 use Rattle.std.proofs.lemmas.List.Folds.{list_all-append}
 use Rattle.dcr_set.specs.EventSet.{Set, numbers}
-use Rattle.dcr_graph.specs.Names.{is_name}
+use Rattle.dcr_graph.specs.Names.{comma_names, is_name}
 use Rattle.dcr_graph.specs.declared.marking.SiteMark.{SiteMark}
 use Rattle.dcr_journal.specs.declared.call.Call.{Call}
 use Rattle.dcr_journal.specs.declared.call.Call.TheVariants.{Exec, Look, Enabled, Accepting}
 use Rattle.dcr_journal.specs.declared.call.Outcome.{Outcome}
 use Rattle.dcr_journal.specs.declared.call.Outcome.TheVariants.{Done, NotHere, Excluded, Condition, Milestone, Faulted, Marks, Can, AllDone, Waits}
 use Rattle.dcr_journal.specs.declared.call.Entry.{Entry}
-use Rattle.dcr_line.specs.Line.{spaced, name_of, comma_names, names_text, list_text, mark_words, mark_text, call_words, outcome_words, entry_words, entry_text}
+use Rattle.dcr_line.specs.Line.{spaced, name_of, names_text, list_text, mark_words, mark_text, call_words, outcome_words, entry_words, entry_text}
 use Rattle.dcr_line.proofs.NameLemmas.{name_lacks}
 use Rattle.dcr_line.proofs.NumberLemmas.{decimal_lacks}
 use Rattle.dcr_line.proofs.PiecesLemmas.{lacks}

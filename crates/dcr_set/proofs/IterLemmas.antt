@@ -17,16 +17,16 @@ pub comes_all : (ws : List ℕ) (k : ℕ) → comes ws 0 (get_or ws 0 0) k ≡ b
 comes_all ws k = ap (λ xs. bit xs k && leb (64 * 0) k) (set-get_or ws 0 0) ∙ ap (λ t. bit ws k && t) (le-leb (64 * 0) k (omega arith)) ∙ and-true (bit ws k)
 
 -- nothing comes of the words before the present one
-comes_before : (ws : List ℕ) (w rest k : ℕ) → k < 64 * w → comes ws w rest k ≡ false
+pub comes_before : (ws : List ℕ) (w rest k : ℕ) → k < 64 * w → comes ws w rest k ≡ false
 comes_before ws w rest k before = ap (λ t. bit (set ws w rest) k && t) (lt-leb (64 * w) k before) ∙ and-false (bit (set ws w rest) k)
 
 -- of the present one comes the rest
-comes_here : (ws : List ℕ) (w rest k : ℕ) → w < length ws → k / 64 ≡ w → comes ws w rest k ≡ digit rest (k % 64)
+pub comes_here : (ws : List ℕ) (w rest k : ℕ) → w < length ws → k / 64 ≡ w → comes ws w rest k ≡ digit rest (k % 64)
 comes_here ws w rest k within same =
     ap (λ t. bit (set ws w rest) k && t) (le-leb (64 * w) k (omega arith)) ∙ and-true (bit (set ws w rest) k) ∙ bit-set_same ws w rest k within same
 
 -- and all bits of the words behind it
-comes_behind : (ws : List ℕ) (w rest k : ℕ) → w < k / 64 → comes ws w rest k ≡ bit ws k
+pub comes_behind : (ws : List ℕ) (w rest k : ℕ) → w < k / 64 → comes ws w rest k ≡ bit ws k
 comes_behind ws w rest k behind =
     ap (λ t. bit (set ws w rest) k && t) (le-leb (64 * w) k (omega arith)) ∙ and-true (bit (set ws w rest) k)
     ∙ bit-set_other ws w rest k (λ same. absurd (omega arith))

@@ -4,6 +4,7 @@ pub mod SetLemmas
 pub mod StandsLemmas
 pub mod NumbersLemmas
 pub mod IterLemmas
+pub mod RunLemmas
 pub mod ToldLemmas
 pub mod ListLemmas
 pub mod KeptLemmas

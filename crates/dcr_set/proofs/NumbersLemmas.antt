@@ -34,10 +34,10 @@ passing_room a (suc m) zero p l h = absurd (omega arith)
 passing_room a (suc m) (suc n) p l h = let rest = passing_room (a + 1) m n p (omega arith) (λ k g. h k (omega arith)) in cc
 
 -- one number more is tried
-taken : (a n : ℕ) (p : ℕ → Bool) → p a ≡ true → passing a (suc n) p ≡ a ∷ passing (a + 1) n p
+pub taken : (a n : ℕ) (p : ℕ → Bool) → p a ≡ true → passing a (suc n) p ≡ a ∷ passing (a + 1) n p
 taken a n p passes = ap (λ b. cond b (a ∷ passing (a + 1) n p) (passing (a + 1) n p)) passes
 
-skipped : (a n : ℕ) (p : ℕ → Bool) → p a ≡ false → passing a (suc n) p ≡ passing (a + 1) n p
+pub skipped : (a n : ℕ) (p : ℕ → Bool) → p a ≡ false → passing a (suc n) p ≡ passing (a + 1) n p
 skipped a n p fails = ap (λ b. cond b (a ∷ passing (a + 1) n p) (passing (a + 1) n p)) fails
 
 -- the first that passes stands in front of those after it

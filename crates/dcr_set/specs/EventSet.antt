@@ -1,5 +1,5 @@
 -- A set of numbers below its room, as a truth value for each of them. It is read by these words alone.
-use Rattle.std.specs.Prelude.{ℕ, Bool, false, not, ◌&&◌, ◌||◌, ◌==◌, List, length, map, filter, Option, slice_index_or}
+use Rattle.std.specs.Prelude.{ℕ, ◌-◌, Bool, false, not, ◌&&◌, ◌||◌, ◌==◌, List, nat_le, length, map, filter, Option, slice_index_or}
 use Rattle.std.specs.List.{range_with_len}
 use Rattle.dcr_set.specs.Least.{least, some_below}
 
@@ -18,6 +18,10 @@ those n p = map p (range_with_len 0 n)
 -- the numbers in the set, ascending
 unfoldable pub numbers : Set → List ℕ
 numbers s = filter (has s) (range_with_len 0 (length s))
+
+-- those from this one on
+abbrev pub numbers_from : Set → ℕ → List ℕ
+numbers_from s from = filter (has s) (range_with_len from (length s - from))
 
 -- the empty set with room n
 abbrev pub no_event : ℕ → Set
@@ -47,6 +51,10 @@ share s t = some_below (length s) (λ k. has s k && has t k)
 -- the least number in the set
 abbrev pub first_of : Set → Option ℕ
 first_of s = least (length s) (has s)
+
+-- the least number in the set from this one on
+abbrev pub first_at_least : Set → ℕ → Option ℕ
+first_at_least s from = least (length s) (λ k. has s k && nat_le from k)
 
 -- the least number in both
 abbrev pub first_in_both : Set → Set → Option ℕ

@@ -6,6 +6,7 @@ mod iter;
 mod kept;
 mod laws;
 mod lowest;
+mod runs;
 mod set;
 mod words;
 

@@ -1,9 +1,9 @@
-ghost use Rattle.std.specs.Prelude.{◌≡◌, ◌+◌, ◌<◌, ◌≤◌, length, take, vec_capacity};
-ghost use Rattle.dcr_set.specs.EventSet.{has, numbers, no_event, with_event, without_event, union, difference, intersection, share, first_of, first_in_both, first_in_both_without, first_in_three};
+ghost use Rattle.std.specs.Prelude.{◌≡◌, ℕ, ◌+◌, ◌<◌, ◌≤◌, true, false, length, take, vec_capacity};
+ghost use Rattle.dcr_set.specs.EventSet.{has, numbers, no_event, with_event, without_event, union, difference, intersection, share, first_of, first_at_least, first_in_both, first_in_both_without, first_in_three};
 ghost use Rattle.dcr_set.specs.Kept.{set_at, words_needed as needed};
 ghost use Rattle.dcr_set.specs.declared.id.TheConstants.{MAX_ATOMS};
 
-use crate::{EventId, EventIter, kept, lowest, words};
+use crate::{EventId, EventIter, kept, lowest, runs, words};
 use std::marker::Model;
 
 /// A set of events: numbers below its room, which is at most `MAX_ATOMS`. It is kept in words of bits
@@ -157,6 +157,22 @@ impl EventSet {
         ensures { result ≡ first_of self.now }
     {
         event(lowest::lowest_of(&self.words, self.room))
+    }
+
+    /// The least event from this number on. None exactly where there is none.
+    pub fn first_from(&self, from: u16) -> Option<EventId>
+        ensures { result ≡ first_at_least self.now from }
+    {
+        event(runs::first_set(&self.words, from, self.room))
+    }
+
+    /// The least number from this one on that is no event. From an event on, the run of events up to it.
+    pub fn first_missing_from(&self, from: u16) -> u16
+        ensures from { from ≤ result }
+        ensures missing { has self.now result ≡ false }
+        ensures run { (k : ℕ) → from ≤ k → k < result → has self.now k ≡ true }
+    {
+        runs::first_clear(&self.words, from)
     }
 
     /// The least event in both. None exactly where there is none.

@@ -19,6 +19,7 @@ enum Members {
     WordEnds,
     WordEdges,
     Scattered,
+    Alternating,
     AllBut(u16),
 }
 
@@ -44,6 +45,7 @@ impl Members {
             Members::WordEnds => number % 64 == 63,
             Members::WordEdges => matches!(number % 64, 0 | 1 | 62 | 63),
             Members::Scattered => number % 37 == 5,
+            Members::Alternating => number % 2 == 0,
             Members::AllBut(other) => number != other,
         }
     }
@@ -255,6 +257,47 @@ fn sets_join_as_their_lists_do(rt: HostRuntime) -> Result<(), Fail> {
             for two in MEMBERS {
                 assert_sets(&rt, rt.alloc(), room, one, two)?;
             }
+        }
+    }
+    Ok(())
+}
+
+// From each number on, the least member and the least number that is none: told from the last number down.
+fn assert_runs(rt: &impl Abort, set: &EventSet, members: Members) {
+    let room = set.room();
+    let mut first = None;
+    let mut missing = room;
+    for from in (0..room + 3).rev() {
+        if from < room && members.has(from, room) {
+            first = Some(EventId(from));
+        } else {
+            missing = from;
+        }
+        assert!(rt;
+            set.first_from(from) == first,
+            "room {room}, {members:?}, {from}"
+        );
+        assert!(rt;
+            set.first_missing_from(from) == missing,
+            "room {room}, {members:?}, {from}"
+        );
+    }
+    assert!(rt; set.first_from(u16::MAX).is_none());
+    assert!(rt; set.first_missing_from(u16::MAX) == u16::MAX);
+}
+
+#[test]
+fn runs_begin_and_end_where_their_lists_do(rt: HostRuntime) -> Result<(), Fail> {
+    for room in [0, 1, 63, 64, 65, 128, 1024] {
+        for members in [
+            Members::Nobody,
+            Members::Everybody,
+            Members::WordStarts,
+            Members::WordEdges,
+            Members::Alternating,
+        ] {
+            let set = set_of(&rt, room, &members.list(rt.alloc(), room)?);
+            assert_runs(&rt, &set, members);
         }
     }
     Ok(())

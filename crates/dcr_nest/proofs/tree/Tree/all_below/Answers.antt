@@ -1,8 +1,9 @@
-use Rattle.dcr_nest.specs.Tree.{atoms_below}
-use Rattle.dcr_nest.proofs.MarkLemmas.{map_grown}
+use Rattle.std.proofs.Common.{length, get_or, ap, arith}
+use Rattle.dcr_nest.proofs.AtomLemmas.{atoms-within}
 use Rattle.dcr_nest.proofs.tree.Tree.all_below.Goals as goal
 
-pub loop-node-preserved : goal.loop-node-preserved
-loop-node-preserved c =
-    map_grown (atoms_below c.args.self.now) c.loop-node.node c.loop-node.sets.items c.push.new.self.items c.in_ok-below.field-0
-    c.loop-node.invariant c.in_ok-below.ensures c.in_ok-push.ensures.items
+pub own-requires-clause-nodes : goal.own-requires-clause-nodes
+own-requires-clause-nodes c = λ k d within.
+    let nodes = c.atoms.ensures.atoms in
+    let inside = atoms-within c.args.self.now k d (omega (arith, ap (λ xs. length xs) nodes, within)) in
+    omega (arith, inside, ap (λ xs. get_or xs k d) nodes, ap (λ ps. length ps) c.parents.ensures.parents)
