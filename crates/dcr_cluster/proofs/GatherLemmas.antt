@@ -1,6 +1,6 @@
 -- The sites of a call, whose locks it takes one after the other and gives back with the entry.
 use Rattle.std.proofs.Common.{◌≡◌, ℕ, ◌<◌, Bool, true, false, cond, List, [], ◌∷◌, ◌++◌, length, map, take, get_or, Option, Some, None, Result, Ok, Err, refl, sym, ap, ◌∙◌, subst, arith, append-nil, length-append}
-use Rattle.std.specs.Prelude.{IfOk, IfErr}
+use Rattle.std.specs.Prelude.{IfErr, OnOk}
 use Rattle.std.specs.List.{All, Contains}
 use Rattle.std.proofs.Math.Seq.{take-append_seam, get_or-append_seam}
 use Rattle.std.proofs.lemmas.List.{get_or_append_left, map-append}
@@ -27,7 +27,7 @@ use Rattle.dcr_cell.specs.CellStands.{CellStands}
 use Rattle.dcr_cell.specs.ClusterId.{ClusterId, IsNamed, IsRunOf}
 use Rattle.dcr_cell.proofs.CellLemmas.{cell_stays, cell_spared, cell_steps}
 use Rattle.dcr_cell.proofs.RunLemmas.{calls_of_run}
-use Rattle.dcr_cluster.specs.Calls.{AnsweredAfter, HaltedAfter, EndsAfter, Made, done_by, seeing}
+use Rattle.dcr_cluster.specs.Calls.{AnsweredAfter, HaltedAfter, EndsAfter, Made, done_by, ending, seeing}
 use Rattle.dcr_cluster.specs.declared.halt.Halt.{Halt}
 use Rattle.dcr_cluster.proofs.EnterLemmas.{same_sites}
 
@@ -175,13 +175,13 @@ module _ {D : Type 0} (c : ClusterId) (first : Option (Store D)) (capacity : ℕ
 
   -- ---- what the call says
 
-  pub answered_by : (turn : TurnId) (before after : PassValue) (row row_after : List FrontValue) (call : Call) (result : Result Outcome Halt)
-      → Made c first capacity turn before after row row_after call result → IfOk result (λ outcome. (J : List Entry) × AnsweredAfter c first capacity J before after call outcome)
-  answered_by turn before after row row_after call (Ok outcome) made = (made.J, made.ends)
-  answered_by turn before after row row_after call (Err halt) made = tt
+  pub answered_by : (turn : TurnId) (before after : PassValue) (row row_after : List FrontValue) (call : Call) (told : Outcome) (ended : Result (Unit {0}) Halt)
+      → Made c first capacity turn before after row row_after call (ending told ended) → OnOk ended ((J : List Entry) × AnsweredAfter c first capacity J before after call told)
+  answered_by turn before after row row_after call told (Ok done) made = (made.J, made.ends)
+  answered_by turn before after row row_after call told (Err halt) made = tt
 
-  pub halted_by : (turn : TurnId) (before after : PassValue) (row row_after : List FrontValue) (call : Call) (result : Result Outcome Halt)
-      → Made c first capacity turn before after row row_after call result → IfErr result (HaltedAfter c first capacity after.front before after)
-  halted_by turn before after row row_after call (Ok outcome) made = tt
-  halted_by turn before after row row_after call (Err halt) made =
+  pub halted_by : (turn : TurnId) (before after : PassValue) (row row_after : List FrontValue) (call : Call) (told : Outcome) (ended : Result (Unit {0}) Halt)
+      → Made c first capacity turn before after row row_after call (ending told ended) → IfErr ended (HaltedAfter c first capacity after.front before after)
+  halted_by turn before after row row_after call told (Ok done) made = tt
+  halted_by turn before after row row_after call told (Err halt) made =
       subst (λ (J : List Entry). HaltedAfter c first capacity J before after halt) (sym made.ends.front) made.ends

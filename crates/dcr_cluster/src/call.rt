@@ -1,4 +1,4 @@
-ghost use Rattle.std.specs.Prelude.{◌≡◌, List, [], ◌++◌, length, IfOk, IfErr};
+ghost use Rattle.std.specs.Prelude.{◌≡◌, List, [], ◌++◌, length, IfOk, IfErr, OnOk};
 ghost use Rattle.std.specs.List.{All};
 ghost use Rattle.dcr_journal.specs.declared.call.Entry.{Entry};
 ghost use Rattle.dcr_cell.specs.Asking.{AreEnough, sites_for, sites_of, unasked, Found};
@@ -33,12 +33,29 @@ impl<D: Disk, G: Gate, N: StoreName<D>> Cluster<D, G, N> {
         ensures answered { IfOk result (λ outcome. (J : List Entry) × AnsweredAfter N.cluster N.first N.capacity J pass.old pass.new call outcome) }
         ensures halted { IfErr result (HaltedAfter N.cluster N.first N.capacity pass.new.front pass.old pass.new) }
     {
-        let mut fronts = self.turn.row();
-        let mut told = unasked(&call);
-        match self.make(rt, pass, &mut fronts, &call, &mut told) {
+        let mut told = Outcome::AllDone;
+        match self.call_into(rt, pass, &call, &mut told) {
             Ok(()) => Ok(told),
             Err(halt) => Err(halt),
         }
+    }
+
+    /// As `call`, with the answer in a place of the caller's, so that a caller of many calls has room for one answer alone.
+    /// Where the call halted, what stands there says nothing.
+    pub fn call_into<R: Wait>(
+        &self,
+        rt: &R,
+        pass: &mut Pass<N>,
+        call: &Call,
+        told: &mut Outcome,
+    ) -> Result<(), Halt>
+        requires { IsCall N.cluster call.now }
+        ensures answered { OnOk result ((J : List Entry) × AnsweredAfter N.cluster N.first N.capacity J pass.old pass.new call.now told.new) }
+        ensures halted { IfErr result (HaltedAfter N.cluster N.first N.capacity pass.new.front pass.old pass.new) }
+    {
+        let mut fronts = self.turn.row();
+        unask(call, told);
+        self.make(rt, pass, &mut fronts, call, told)
     }
 
     // Makes the call, with as few locks as it wants.
@@ -171,13 +188,13 @@ impl<D: Disk, G: Gate, N: StoreName<D>> Cluster<D, G, N> {
     }
 }
 
-// What a call is answered where no site was asked.
-fn unasked(call: &Call) -> Outcome
-    ensures { result ≡ unasked call.now }
+// Makes a value what a call is answered where no site was asked.
+fn unask(call: &Call, told: &mut Outcome)
+    ensures { told.new ≡ unasked call.now }
 {
     match call {
-        Call::Accepting => Outcome::AllDone,
-        _ => Outcome::NotHere,
+        Call::Accepting => *told = Outcome::AllDone,
+        _ => *told = Outcome::NotHere,
     }
 }
 

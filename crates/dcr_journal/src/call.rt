@@ -86,36 +86,46 @@ impl Outcome {
     pub fn copy(&self) -> Outcome
         ensures { result ≡ self.now }
     {
+        let mut copy = Outcome::AllDone;
+        self.copy_to(&mut copy);
+        copy
+    }
+
+    /// Makes a value the same outcome. It is written where it is to stand, so that no room for sets is moved. Takes no
+    /// memory.
+    pub fn copy_to(&self, to: &mut Outcome)
+        ensures { to.new ≡ self.now }
+    {
         match self {
-            Outcome::Done => Outcome::Done,
-            Outcome::NotHere => Outcome::NotHere,
-            Outcome::Excluded => Outcome::Excluded,
-            Outcome::Condition(e) => Outcome::Condition(*e),
-            Outcome::Milestone(e) => Outcome::Milestone(*e),
-            Outcome::Faulted => Outcome::Faulted,
-            Outcome::Marks(mark) => copy_marks(mark),
-            Outcome::Can(set) => copy_set(set),
-            Outcome::AllDone => Outcome::AllDone,
-            Outcome::Waits(e) => Outcome::Waits(*e),
+            Outcome::Done => *to = Outcome::Done,
+            Outcome::NotHere => *to = Outcome::NotHere,
+            Outcome::Excluded => *to = Outcome::Excluded,
+            Outcome::Condition(e) => *to = Outcome::Condition(EventId(e.0)),
+            Outcome::Milestone(e) => *to = Outcome::Milestone(EventId(e.0)),
+            Outcome::Faulted => *to = Outcome::Faulted,
+            Outcome::Marks(mark) => copy_marks(mark, to),
+            Outcome::Can(set) => copy_set(set, to),
+            Outcome::AllDone => *to = Outcome::AllDone,
+            Outcome::Waits(e) => *to = Outcome::Waits(EventId(e.0)),
         }
     }
 }
 
-// The answer to a look with these marks. It stands by itself, as the next one does: where the sets are moved beside the
-// other outcomes, each of those is moved as a whole too.
+// Makes a value the answer to a look with these marks. It stands by itself, as the next one does, since room for the sets
+// is cleared where it begins, which other outcomes need not wait for.
 #[inline(never)]
-fn copy_marks(mark: &SiteMark) -> Outcome
-    ensures { result ≡ Marks mark.now }
+fn copy_marks(mark: &SiteMark, to: &mut Outcome)
+    ensures { to.new ≡ Marks mark.now }
 {
-    Outcome::Marks(mark.copy())
+    *to = Outcome::Marks(mark.copy());
 }
 
-// The answer to the question what is enabled, with this set.
+// The same of the answer to the question what is enabled, with this set.
 #[inline(never)]
-fn copy_set(set: &EventSet) -> Outcome
-    ensures { result ≡ Can set.now }
+fn copy_set(set: &EventSet, to: &mut Outcome)
+    ensures { to.new ≡ Can set.now }
 {
-    Outcome::Can(set.copy())
+    *to = Outcome::Can(set.copy());
 }
 
 /// One call in the journal. Its place there is its number in the one order of all calls.

@@ -1,4 +1,4 @@
-ghost use Rattle.std.specs.Prelude.{◌≡◌, ◌+◌, ◌-◌, ◌<◌, ◌≤◌, [], ◌∷◌, ◌++◌, length, ◌↔◌, IsTrue, IfOk, slice_get};
+ghost use Rattle.std.specs.Prelude.{◌≡◌, ◌+◌, ◌-◌, ◌<◌, ◌≤◌, [], ◌∷◌, ◌++◌, length, ◌↔◌, IsTrue, IfOk, Some, slice_get};
 
 use crate::slot::{Kept, MOST_WORDS, Slot};
 use crate::{Call, Entry, Outcome};
@@ -106,8 +106,25 @@ impl Journal {
     pub fn get(&self, place: u32) -> Option<Entry>
         ensures { result ≡ slice_get self.now.entries place }
     {
-        let slot = self.slots.get(place as usize)?;
-        Some(slot.entry(&self.row))
+        if place >= self.len() {
+            return None;
+        }
+        let mut entry = Entry {
+            session: 0,
+            seq: 0,
+            call: Call::Accepting,
+            outcome: Outcome::AllDone,
+        };
+        self.read(place, &mut entry);
+        Some(entry)
+    }
+
+    /// Makes a value the entry at a place below the length, from 0. Takes no memory.
+    pub fn read(&self, place: u32, entry: &mut Entry)
+        requires { place < length self.now.entries }
+        ensures { slice_get self.now.entries place ≡ Some entry.new }
+    {
+        self.slots[place as usize].read(&self.row, entry);
     }
 
     /// The last entry, as a value of its own. None exactly where there is none. Takes no memory.

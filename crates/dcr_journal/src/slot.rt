@@ -48,51 +48,59 @@ impl Kept {
         }
     }
 
-    /// The outcome, whose sets stand in the row from this word on.
-    pub(crate) fn outcome(&self, row: &[u64], place: usize) -> Outcome
+    /// Makes a value the outcome, whose sets stand in the row from this word on. Each outcome is written where it is to
+    /// stand, so that no room for sets is moved.
+    pub(crate) fn read(&self, row: &[u64], place: usize, outcome: &mut Outcome)
         requires { IsIn row.now place self.now }
-        ensures { result ≡ outcome_at row.now place self.now }
+        ensures { outcome.new ≡ outcome_at row.now place self.now }
     {
         match self {
-            Kept::Done => Outcome::Done,
-            Kept::NotHere => Outcome::NotHere,
-            Kept::Excluded => Outcome::Excluded,
-            Kept::Condition(e) => Outcome::Condition(*e),
-            Kept::Milestone(e) => Outcome::Milestone(*e),
-            Kept::Faulted => Outcome::Faulted,
+            Kept::Done => *outcome = Outcome::Done,
+            Kept::NotHere => *outcome = Outcome::NotHere,
+            Kept::Excluded => *outcome = Outcome::Excluded,
+            Kept::Condition(e) => *outcome = Outcome::Condition(EventId(e.0)),
+            Kept::Milestone(e) => *outcome = Outcome::Milestone(EventId(e.0)),
+            Kept::Faulted => *outcome = Outcome::Faulted,
             Kept::Marks(executed, pending, included) => {
-                kept_marks(row, place, *executed, *pending, *included)
+                read_marks(row, place, *executed, *pending, *included, outcome);
             }
-            Kept::Can(room) => kept_set(row, place, *room),
-            Kept::AllDone => Outcome::AllDone,
-            Kept::Waits(e) => Outcome::Waits(*e),
+            Kept::Can(room) => read_set(row, place, *room, outcome),
+            Kept::AllDone => *outcome = Outcome::AllDone,
+            Kept::Waits(e) => *outcome = Outcome::Waits(EventId(e.0)),
         }
     }
 }
 
-// The marks with these rooms, which stand in the row from this word on. It stands by itself, as the next one does: where
-// the sets are moved beside the other outcomes, each of those is moved as a whole too.
+// The same of marks with these rooms. It stands by itself, as the next one does, since room for the sets is cleared where
+// it begins, which other outcomes need not wait for.
 #[inline(never)]
-fn kept_marks(row: &[u64], place: usize, executed: u16, pending: u16, included: u16) -> Outcome
+fn read_marks(
+    row: &[u64],
+    place: usize,
+    executed: u16,
+    pending: u16,
+    included: u16,
+    outcome: &mut Outcome,
+)
     requires { IsIn row.now place (Kept.Marks executed pending included) }
-    ensures { result ≡ outcome_at row.now place (Kept.Marks executed pending included) }
+    ensures { outcome.new ≡ outcome_at row.now place (Kept.Marks executed pending included) }
 {
     let second = place + EventSet::words_needed(executed);
     let third = second + EventSet::words_needed(pending);
-    Outcome::Marks(SiteMark {
+    *outcome = Outcome::Marks(SiteMark {
         executed: EventSet::from_words(row, place, executed),
         pending: EventSet::from_words(row, second, pending),
         included: EventSet::from_words(row, third, included),
-    })
+    });
 }
 
-// The set with this room, which stands in the row from this word on.
+// The same of a set with this room.
 #[inline(never)]
-fn kept_set(row: &[u64], place: usize, room: u16) -> Outcome
+fn read_set(row: &[u64], place: usize, room: u16, outcome: &mut Outcome)
     requires { IsIn row.now place (Kept.Can room) }
-    ensures { result ≡ outcome_at row.now place (Kept.Can room) }
+    ensures { outcome.new ≡ outcome_at row.now place (Kept.Can room) }
 {
-    Outcome::Can(EventSet::from_words(row, place, room))
+    *outcome = Outcome::Can(EventSet::from_words(row, place, room));
 }
 
 #[inline(never)]
@@ -139,16 +147,15 @@ pub(crate) struct Slot {
 }
 
 impl Slot {
-    /// The entry, the sets of whose outcome stand in the row.
-    pub(crate) fn entry(&self, row: &[u64]) -> Entry
+    /// Makes a value the entry, the sets of whose outcome stand in the row.
+    pub(crate) fn read(&self, row: &[u64], entry: &mut Entry)
         requires { IsKept row.now self.now }
-        ensures { result ≡ entry_at row.now self.now }
+        ensures { entry.new ≡ entry_at row.now self.now }
     {
-        Entry {
-            session: self.session,
-            seq: self.seq,
-            call: self.call,
-            outcome: self.outcome.outcome(row, self.place as usize),
-        }
+        entry.session = self.session;
+        entry.seq = self.seq;
+        entry.call = self.call;
+        self.outcome
+            .read(row, self.place as usize, &mut entry.outcome);
     }
 }

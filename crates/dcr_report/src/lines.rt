@@ -16,7 +16,7 @@ use crate::write::{write_end, write_site, write_verdict};
 use dcr_base::{Sink, write_all};
 use dcr_canon::{cover_text, graph_text};
 use dcr_graph::{Graph, Marking, Name, SiteMark};
-use dcr_journal::{Closed, Entry, Journal, MarkList};
+use dcr_journal::{Call, Closed, Entry, Journal, MarkList, Outcome};
 use dcr_line::{write_entry, write_marking};
 use dcr_nest::{Nested, Version};
 use dcr_proj::Cover;
@@ -121,8 +121,15 @@ pub(crate) fn pass_entries<O: Sink>(
     ensures no_fault { OnOk result (O.write_faults sink.new ≡ O.write_faults sink.old) }
     ensures never_falls { O.write_faults sink.old ≤ O.write_faults sink.new }
 {
+    // Room for one entry, into which each is read in turn.
+    let mut entry = Entry {
+        session: 0,
+        seq: 0,
+        call: Call::Accepting,
+        outcome: Outcome::AllDone,
+    };
     for place in 0..history.len() {
-        let entry = history.get(place).unwrap();
+        history.read(place, &mut entry);
         pass_entry(place, &entry, graph, cover, held, sink)?;
     }
     Ok(())

@@ -146,16 +146,18 @@ impl<N: TurnName> Desk<N> {
         ensures made { pass.new.made ≡ pass.old.made + 1 }
     {
         let faulted = is_fault_told(outcome);
-        let entry = Entry {
+        let mut entry = Entry {
             session: pass.session,
             seq: pass.made,
             call,
-            outcome: outcome.copy(),
+            outcome: Outcome::AllDone,
         };
+        outcome.copy_to(&mut entry.outcome);
         self.records.join(order, Records::out_of(&mut pass.badge));
         self.records.publish(order, self.journal.len(), &entry);
         pass.badge = self.records.cut(order).into_badge();
-        self.journal.push(entry);
+        self.journal
+            .push_call(entry.session, entry.seq, &entry.call, &entry.outcome);
         self.faulted = faulted;
         pass.seen = self.journal.len();
         pass.made += 1;

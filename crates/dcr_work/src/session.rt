@@ -7,7 +7,7 @@ ghost use Rattle.dcr_work.specs.Working.{BeganWith, HasWorked};
 use dcr_base::{Disk, Gate};
 use dcr_cell::StoreName;
 use dcr_cluster::Cluster;
-use dcr_journal::CallList;
+use dcr_journal::{CallList, Outcome};
 use dcr_turn::Pass;
 use std::sync::Wait;
 
@@ -26,9 +26,11 @@ pub(crate) fn run_session<D: Disk, G: Gate, N: StoreName<D>, R: Wait>(
     ensures worked { HasWorked N.cluster N.first N.capacity calls.now pass.new }
     ensures began { BeganWith pass.old.front pass.new }
 {
+    // What the calls are told, one after the other.
+    let mut told = Outcome::AllDone;
     for i in 0..calls.len() {
         let call = *calls.get(i).unwrap();
-        let Ok(_) = cluster.call(rt, pass, call) else {
+        let Ok(()) = cluster.call_into(rt, pass, &call, &mut told) else {
             return;
         };
     }

@@ -1,4 +1,4 @@
-use Rattle.std.proofs.Common.{◌≡◌, ◌+◌, ◌∷◌, ◌++◌, ℕ, List, sym, ap, ◌∙◌, drop}
+use Rattle.std.proofs.Common.{◌≡◌, ◌+◌, ◌∷◌, ◌++◌, ℕ, List, ap, ◌∙◌, drop}
 use Rattle.dcr_journal.specs.declared.call.Entry.{Entry}
 use Rattle.dcr_line.specs.Line.{entry_text}
 use Rattle.dcr_report.specs.Report.{line, lines_text, entry_lines}
@@ -16,8 +16,8 @@ loop-place-preserved g c =
     let atoms = c.args.graph.now.names in
     let entries = c.args.history.now.entries in
     let place = c.loop-place.place in
-    let entry = c.unwrap-entry.result in
-    let lines = first_line sites atoms place _ _ entry (drop_at_get entries place entry (sym c.get.ensures ∙ c.unwrap-entry.ensures)) in
+    let entry = c.read.new.entry in
+    let lines = first_line sites atoms place _ _ entry (drop_at_get entries place entry c.read.ensures) in
     record {
       passed = Passes-next (lines_text (entry_lines sites atoms (place + 1) (drop (place + 1) entries)))
           (Passes-line c.loop-place.held.items lines c.loop-place.invariant.passed) c.in_ok-pass_entry.ensures.passed;
@@ -30,8 +30,8 @@ returns-in_err-pass_entry-clause-stopped g c =
     let atoms = c.args.graph.now.names in
     let entries = c.args.history.now.entries in
     let place = c.loop-place.place in
-    let entry = c.unwrap-entry.result in
-    let lines = first_line sites atoms place _ _ entry (drop_at_get entries place entry (sym c.get.ensures ∙ c.unwrap-entry.ensures)) in
+    let entry = c.read.new.entry in
+    let lines = first_line sites atoms place _ _ entry (drop_at_get entries place entry c.read.ensures) in
     IfErr-from c.from_residual.result c.from_residual.ensures.1 (λ stop is.
     StopsWithin-next (lines_text (entry_lines sites atoms (place + 1) (drop (place + 1) entries)))
     (Passes-line c.loop-place.held.items lines c.loop-place.invariant.passed)

@@ -21,10 +21,10 @@ publish-requires-clause-concerned g c =
     let r = knowing F (Session c.pass.inside.session) in
     let one = one_view c.out_of.result (r ∷ []) (sym c.out_of.ensures ∙ c.pass.invariant.views) in
     let came = joined_is H H L r r c.self.inside.records c.out_of.result c.join.new.self c.self.invariant.records one c.join.ensures in
-    let hear : AllHear g.N.TurnName.turn.alphabets L c.args.call c.copy.result =
-    subst (AllHear g.N.TurnName.turn.alphabets L c.args.call) (sym c.copy.ensures)
+    let hear : AllHear g.N.TurnName.turn.alphabets L c.args.call c.copy_to.new.to =
+    subst (AllHear g.N.TurnName.turn.alphabets L c.args.call) (sym c.copy_to.ensures)
     (subst (λ (d : DeskValue). AllHear g.N.TurnName.turn.alphabets d.enlisted c.args.call c.args.outcome.now) (sym c.self.view_is) c.requires.hear) in
-    rw came (all_here g.N.TurnName.turn.alphabets g.N.TurnName.turn.sessions H F L c.pass.inside.session c.pass.inside.made c.args.call c.copy.result hear)
+    rw came (all_here g.N.TurnName.turn.alphabets g.N.TurnName.turn.sessions H F L c.pass.inside.session c.pass.inside.made c.args.call c.copy_to.new.to hear)
 
 pub invariant_of-self : goal.invariant_of-self
 invariant_of-self g c =
@@ -32,14 +32,14 @@ invariant_of-self g c =
     let L = sites_in c.self.inside.records in
     let x = Session c.pass.inside.session in
     let r = knowing (seen_in c.pass.inside) x in
-    let e : Entry = record { session = c.pass.inside.session; seq = c.pass.inside.made; call = c.args.call; outcome = c.copy.result } in
+    let e : Entry = record { session = c.pass.inside.session; seq = c.pass.inside.made; call = c.args.call; outcome = c.copy_to.new.to } in
     let one = one_view c.out_of.result (r ∷ []) (sym c.out_of.ensures ∙ c.pass.invariant.views) in
     let came = joined_is H H L r r c.self.inside.records c.out_of.result c.join.new.self c.self.invariant.records one c.join.ensures in
     let told = published_is H H L r r c.join.new.self c.out_of.result c.publish.new.self e came c.publish.ensures in
     let rest = kept_is H (H ++ e ∷ []) L r (knowing (H ++ e ∷ []) x) c.publish.new.self c.out_of.result c.cut.new.self told c.cut.ensures.kept in record {
-      records = desk_again c.cut.new.self c.push.new.self.entries L (rest ∙ ap (λ (J : List Entry). all_know J L) (sym c.push.ensures.entries));
-      capacity = c.push.ensures.capacity ∙ c.self.invariant.capacity;
-      faulted = c.is_fault_told-faulted.ensures ∙ ap is_fault (sym c.copy.ensures) ∙ sym (fault_pushed H e) ∙ ap ends_in_fault (sym c.push.ensures.entries);
+      records = desk_again c.cut.new.self c.push_call.new.self.entries L (rest ∙ ap (λ (J : List Entry). all_know J L) (sym c.push_call.ensures.entries));
+      capacity = c.push_call.ensures.capacity ∙ c.self.invariant.capacity;
+      faulted = c.is_fault_told-faulted.ensures ∙ ap is_fault (sym c.copy_to.ensures) ∙ sym (fault_pushed H e) ∙ ap ends_in_fault (sym c.push_call.ensures.entries);
     }
 
 pub invariant_of-pass : goal.invariant_of-pass
@@ -48,7 +48,7 @@ invariant_of-pass g c =
     let L = sites_in c.self.inside.records in
     let x = Session c.pass.inside.session in
     let r = knowing (seen_in c.pass.inside) x in
-    let e : Entry = record { session = c.pass.inside.session; seq = c.pass.inside.made; call = c.args.call; outcome = c.copy.result } in
+    let e : Entry = record { session = c.pass.inside.session; seq = c.pass.inside.made; call = c.args.call; outcome = c.copy_to.new.to } in
     let one = one_view c.out_of.result (r ∷ []) (sym c.out_of.ensures ∙ c.pass.invariant.views) in
     let came = joined_is H H L r r c.self.inside.records c.out_of.result c.join.new.self c.self.invariant.records one c.join.ensures in
     let told = published_is H H L r r c.join.new.self c.out_of.result c.publish.new.self e came c.publish.ensures in
@@ -58,7 +58,7 @@ invariant_of-pass g c =
     let more = made_one_more c.pass.inside.session c.pass.inside.made H e refl (c.pass.invariant.made ∙ ap (made_by c.pass.inside.session) met) in record {
       mark = c.into_badge.ensures.mark;
       views = c.into_badge.ensures.views ∙ ap (λ (v : List Record). v ∷ []) gone ∙ ap (λ (J : List Entry). (knowing J x ∷ []) ∷ []) (sym seen);
-      seen = c.len-pass-inside.ensures.len ∙ ap length (c.push.ensures.entries ∙ sym seen);
+      seen = c.len-pass-inside.ensures.len ∙ ap length (c.push_call.ensures.entries ∙ sym seen);
       made = more ∙ ap (made_by c.pass.inside.session) (sym seen);
       session = c.pass.invariant.session;
     }
@@ -69,7 +69,7 @@ returns-clause-enlisted g c =
     let L = sites_in c.self.inside.records in
     let x = Session c.pass.inside.session in
     let r = knowing (seen_in c.pass.inside) x in
-    let e : Entry = record { session = c.pass.inside.session; seq = c.pass.inside.made; call = c.args.call; outcome = c.copy.result } in
+    let e : Entry = record { session = c.pass.inside.session; seq = c.pass.inside.made; call = c.args.call; outcome = c.copy_to.new.to } in
     let one = one_view c.out_of.result (r ∷ []) (sym c.out_of.ensures ∙ c.pass.invariant.views) in
     let came = joined_is H H L r r c.self.inside.records c.out_of.result c.join.new.self c.self.invariant.records one c.join.ensures in
     let told = published_is H H L r r c.join.new.self c.out_of.result c.publish.new.self e came c.publish.ensures in
