@@ -6,6 +6,8 @@ mod many;
 #[cfg(test)]
 mod rows;
 #[cfg(test)]
+mod same;
+#[cfg(test)]
 mod serving;
 #[cfg(test)]
 mod tcp;

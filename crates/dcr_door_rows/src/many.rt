@@ -1,4 +1,5 @@
 // Servings with a store, with many sessions, and with as many entries as there may be.
+use crate::same::{same, same_bytes};
 use crate::serving::{Came, Serving, empty_disk, served, words_of};
 use dcr_app::{Status, WorkCause, WorkEnd, dcr};
 use dcr_base::{OpenGate, StdSink, StdSource};
@@ -61,10 +62,15 @@ fn many_sessions_give_a_valid_report(rt: HostRuntime) -> Result<(), Fail> {
         failing: &[],
     };
     let came = served(&rt, alloc, &serving, empty_disk(alloc), OpenGate)?;
-    assert_eq!(rt; came.status, Status::Done);
-    assert_eq!(rt; came.ends.len(), 40);
+    same(&rt, &came.status, &Status::Done, "came.status");
+    same(&rt, &came.ends.len(), &40, "came.ends.len()");
     let verdict = replayed(&rt, alloc, &came.report)?;
-    assert_eq!(rt; verdict.as_slice(), b"valid 240\n".as_slice());
+    same_bytes(
+        &rt,
+        verdict.as_slice(),
+        b"valid 240\n".as_slice(),
+        "verdict.as_slice()",
+    );
     Ok(())
 }
 
@@ -88,9 +94,9 @@ fn on<R: Threads + Wait + Sync>(
 fn a_second_serving_goes_on_from_the_first(rt: HostRuntime) -> Result<(), Fail> {
     let alloc = rt.alloc();
     let first = on(&rt, alloc, b"exec doctor pm\n", empty_disk(alloc))?;
-    assert_eq!(rt; first.status, Status::Done);
+    same(&rt, &first.status, &Status::Done, "first.status");
     let second = on(&rt, alloc, b"exec doctor s\n", first.disk)?;
-    assert_eq!(rt; second.status, Status::Done);
+    same(&rt, &second.status, &Status::Done, "second.status");
     let text = str::from_utf8(&second.report)?;
     assert!(rt; text.contains("open executed pm pending s,gm included pm,s,gm,dt\n"));
     assert!(rt; text.contains("0 0 0 exec doctor s done\n"));
@@ -105,18 +111,22 @@ fn a_disk_that_fails_ends_the_serving(rt: HostRuntime) -> Result<(), Fail> {
     let disk = MemDisk::new(alloc, Vec::new(alloc), failing);
     let asked = b"exec doctor pm\nexec nurse gm\nexec doctor s\naccepting\n";
     let came = on(&rt, alloc, asked, disk)?;
-    assert_eq!(rt; came.status, Status::DiskFault);
+    same(&rt, &came.status, &Status::DiskFault, "came.status");
     let end = came.ends.first().ok_or("an end")?;
-    assert_eq!(rt;
-        str::from_utf8(&end.taken)?,
-        "0 0 0 exec doctor pm done\n1 0 1 exec nurse gm condition s\n2 0 2 exec doctor s faulted\nstopped 2\n"
+    same(
+        &rt,
+        &str::from_utf8(&end.taken)?,
+        &"0 0 0 exec doctor pm done\n1 0 1 exec nurse gm condition s\n2 0 2 exec doctor s faulted\nstopped 2\n",
+        "str::from_utf8(&end.taken)?",
     );
-    assert_eq!(rt;
-        end.end,
-        WorkEnd {
+    same(
+        &rt,
+        &end.end,
+        &WorkEnd {
             calls: 3,
-            cause: WorkCause::Halted(Halt::Stopped { at: 2 })
-        }
+            cause: WorkCause::Halted(Halt::Stopped { at: 2 }),
+        },
+        "end.end",
     );
     assert!(rt; str::from_utf8(&came.report)?.ends_with("end 3\n"));
     Ok(())
@@ -164,11 +174,11 @@ fn a_full_history_is_told_though_no_further_call_came(rt: HostRuntime) -> Result
     ];
     for (asked, status, calls, cause) in rows {
         let came = two_of(&rt, alloc, 100_000, asked)?;
-        assert_eq!(rt; came.status, status);
+        same(&rt, &came.status, &status, "came.status");
         let end = came.ends.get(1).ok_or("an end")?;
-        assert_eq!(rt; end.end, WorkEnd { calls, cause });
+        same(&rt, &end.end, &WorkEnd { calls, cause }, "end.end");
         let full = end.taken.ends_with(b"full 200000\n");
-        assert_eq!(rt; full, asked == 100_001);
+        same(&rt, &full, &(asked == 100_001), "full");
         let last = format!(in alloc; "end {}\n", 100_000 + calls)?;
         assert!(rt; came.report.ends_with(last.as_bytes()));
     }

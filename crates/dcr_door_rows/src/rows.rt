@@ -1,4 +1,5 @@
 // The rows of `serve`: who asks what, and what is answered and written.
+use crate::same::{same, same_bytes, same_text};
 use crate::serving::{Serving, empty_disk, served};
 use dcr_app::{Status, WorkCause, WorkEnd};
 use dcr_base::OpenGate;
@@ -36,16 +37,23 @@ struct Row<'a> {
 
 // That the sessions have ended so, in order, each with its number.
 fn assert_ends<R: Abort>(rt: &R, told: &[Told], ends: &[(&str, u32, WorkCause)]) {
-    assert_eq!(rt; told.len(), ends.len());
+    same(rt, &told.len(), &ends.len(), "told.len()");
     for (session, (told, (taken, calls, cause))) in (0u32..).zip(told.iter().zip(ends)) {
-        assert_eq!(rt; told.session, session);
-        assert_eq!(rt; told.taken.as_slice(), taken.as_bytes());
-        assert_eq!(rt;
-            told.end,
-            WorkEnd {
+        same(rt, &told.session, &session, "told.session");
+        same_bytes(
+            rt,
+            told.taken.as_slice(),
+            taken.as_bytes(),
+            "told.taken.as_slice()",
+        );
+        same(
+            rt,
+            &told.end,
+            &WorkEnd {
                 calls: *calls,
-                cause: *cause
-            }
+                cause: *cause,
+            },
+            "told.end",
         );
     }
 }
@@ -62,11 +70,16 @@ fn expect<R: Threads + Wait + Sync + Abort>(
         failing: row.failing,
     };
     let came = served(rt, alloc, &serving, empty_disk(alloc), OpenGate)?;
-    assert_eq!(rt; came.status, row.status);
+    same(rt, &came.status, &row.status, "came.status");
     let report = format!(in alloc; "{HEAD}{}", row.rest)?;
-    assert_eq!(rt; str::from_utf8(&came.report)?, report.as_str());
+    same_text(
+        rt,
+        str::from_utf8(&came.report)?,
+        report.as_str(),
+        "str::from_utf8(&came.report)?",
+    );
     assert_ends(rt, &came.ends, row.ends);
-    assert_eq!(rt; came.left, row.left);
+    same(rt, &came.left, &row.left, "came.left");
     // Without `--store` the disk isn't called.
     assert!(rt; came.disk.calls().is_empty());
     Ok(())
@@ -244,16 +257,18 @@ fn two_sessions_are_served_at_once(rt: HostRuntime) -> Result<(), Fail> {
         failing: &[],
     };
     let came = served(&rt, alloc, &serving, empty_disk(alloc), &gate)?;
-    assert_eq!(rt; came.status, Status::Done);
+    same(&rt, &came.status, &Status::Done, "came.status");
     assert!(rt; !gate.first_spent() && !gate.second_spent());
-    assert_eq!(rt; came.ends.len(), 2);
+    same(&rt, &came.ends.len(), &2, "came.ends.len()");
     for told in &came.ends {
-        assert_eq!(rt;
-            told.end,
-            WorkEnd {
+        same(
+            &rt,
+            &told.end,
+            &WorkEnd {
                 calls: 1,
-                cause: WorkCause::Ended
-            }
+                cause: WorkCause::Ended,
+            },
+            "told.end",
         );
     }
     Ok(())

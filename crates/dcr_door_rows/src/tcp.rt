@@ -1,4 +1,5 @@
 // Two ends in one process: a session over TCP that `dcr` serves, and somebody who connects.
+use crate::same::{same, same_text};
 use crate::serving::{empty_disk, words_of};
 use dcr_app::{Status, WorkCause, WorkEnd, dcr};
 use dcr_base::{OpenGate, StdSink, StdSource};
@@ -70,15 +71,22 @@ fn somebody_who_connects_is_answered(rt: HostRuntime) -> Result<(), Fail> {
     let alloc = rt.alloc();
     let (reply, came) = join(&rt, || ask(&rt, alloc), || serve(&rt, alloc));
     let (status, report, ended) = came?;
-    assert_eq!(rt; reply?.as_str(), "0 0 0 accepting yes\n");
-    assert_eq!(rt; status, Status::Done);
+    same_text(
+        &rt,
+        reply?.as_str(),
+        "0 0 0 accepting yes\n",
+        "reply?.as_str()",
+    );
+    same(&rt, &status, &Status::Done, "status");
     assert!(rt; report.ends_with(b"end 1\n"));
-    assert_eq!(rt;
-        ended,
-        Some(WorkEnd {
+    same(
+        &rt,
+        &ended,
+        &Some(WorkEnd {
             calls: 1,
-            cause: WorkCause::Ended
-        })
+            cause: WorkCause::Ended,
+        }),
+        "ended",
     );
     Ok(())
 }

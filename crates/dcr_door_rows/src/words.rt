@@ -1,4 +1,5 @@
 // The words of `serve`.
+use crate::same::{same, same_bytes};
 use crate::serving::{Serving, empty_disk, served};
 use dcr_app::Status;
 use dcr_base::OpenGate;
@@ -52,8 +53,13 @@ fn other_words_behind_serve_are_answered_by_usage(rt: HostRuntime) -> Result<(),
         &["Serve", "--sessions", "1", "--workers", "1"],
     ] {
         let (status, written) = answer(&rt, rt.alloc(), words)?;
-        assert_eq!(rt; status, Status::Usage);
-        assert_eq!(rt; written.as_slice(), b"usage\n".as_slice());
+        same(&rt, &status, &Status::Usage, "status");
+        same_bytes(
+            &rt,
+            written.as_slice(),
+            b"usage\n".as_slice(),
+            "written.as_slice()",
+        );
     }
     Ok(())
 }
@@ -63,7 +69,7 @@ fn numbers_up_to_their_limits_are_spelled(rt: HostRuntime) -> Result<(), Fail> {
     for (sessions, workers) in [("1", "1"), ("1", "64"), ("1024", "1"), ("1000", "10")] {
         let words = ["serve", "--sessions", sessions, "--workers", workers];
         let (status, _) = answer(&rt, rt.alloc(), &words)?;
-        assert_eq!(rt; status, Status::Done, "{sessions} and {workers}");
+        same(&rt, &status, &Status::Done, "and");
     }
     Ok(())
 }
@@ -79,8 +85,8 @@ fn a_file_that_is_no_case_is_refused_before_the_door_is_asked(rt: HostRuntime) -
         failing: &[1],
     };
     let came = served(&rt, alloc, &serving, empty_disk(alloc), OpenGate)?;
-    assert_eq!(rt; came.status, Status::Refused);
-    assert_eq!(rt; came.left, 0);
+    same(&rt, &came.status, &Status::Refused, "came.status");
+    same(&rt, &came.left, &0, "came.left");
     assert!(rt; came.ends.is_empty());
     Ok(())
 }

@@ -1,5 +1,6 @@
 // Worked rows: what the clauses mean at known values, and that each call can succeed.
 use crate::build::{event_set, graph_of, members, tried};
+use crate::same::{same, same_text};
 use dcr_graph::{Graph, GraphStop, Kind, Label, LabelStop, Marking, Name, NameStop, SiteMark};
 use dcr_set::EventId;
 use std::process::Abort;
@@ -31,11 +32,11 @@ fn names_are_told_from_other_texts(rt: HostRuntime) -> Result<(), Fail> {
         match read {
             Ok(name) => {
                 assert!(rt; is_name, "{text}");
-                assert_eq!(rt; name.text(), text);
+                same_text(&rt, name.text(), text, "name.text()");
             }
             Err(stop) => {
                 assert!(rt; !is_name, "{text}");
-                assert_eq!(rt; stop, NameStop::NotName, "{text}");
+                same(&rt, &stop, &NameStop::NotName, text);
             }
         }
     }
@@ -53,11 +54,11 @@ fn labels_have_at_most_200_bytes(rt: HostRuntime) -> Result<(), Fail> {
         match Label::read(rt.alloc(), text.as_str()) {
             Ok(label) => {
                 assert!(rt; is_label, "{count}");
-                assert_eq!(rt; label.text(), text.as_str());
+                same_text(&rt, label.text(), text.as_str(), "label.text()");
             }
             Err(stop) => {
                 assert!(rt; !is_label, "{count}");
-                assert_eq!(rt; stop, LabelStop::Long, "{count}");
+                same(&rt, &stop, &LabelStop::Long, "stop");
             }
         }
     }
@@ -75,16 +76,31 @@ fn kinds_are_numbered(rt: HostRuntime) {
         (Kind::Cancel, 5),
     ];
     for (kind, number) in rows {
-        assert_eq!(rt; kind.number(), number);
+        same(&rt, &kind.number(), &number, "kind.number()");
     }
 }
 
 // An atom, its name and its label.
 fn assert_atom(rt: &impl Abort, graph: &Graph, number: u16, name: &str, label: &str) {
     assert!(rt; number < graph.atoms());
-    assert_eq!(rt; graph.name(EventId(number)).text(), name);
-    assert_eq!(rt; graph.label(EventId(number)).text(), label);
-    assert_eq!(rt; graph.find(name), Some(EventId(number)));
+    same_text(
+        rt,
+        graph.name(EventId(number)).text(),
+        name,
+        "graph.name(EventId(number)).text()",
+    );
+    same_text(
+        rt,
+        graph.label(EventId(number)).text(),
+        label,
+        "graph.label(EventId(number)).text()",
+    );
+    same(
+        rt,
+        &graph.find(name),
+        &Some(EventId(number)),
+        "graph.find(name)",
+    );
 }
 
 // The sources and the targets of an atom by this kind.
@@ -98,9 +114,9 @@ fn assert_related(
 ) {
     assert!(rt; number < graph.atoms());
     let into = members(graph.sources(kind, EventId(number)));
-    assert_eq!(rt; into, sources, "{kind:?} into {number}");
+    same(rt, &into, &sources, "into");
     let from = members(graph.targets(kind, EventId(number)));
-    assert_eq!(rt; from, targets, "{kind:?} from {number}");
+    same(rt, &from, &targets, "from");
 }
 
 #[test]
@@ -114,7 +130,7 @@ fn a_graph_tells_its_atoms_and_pairs(rt: HostRuntime) -> Result<(), Fail> {
         (Kind::Condition, 0, 1),
     ];
     let graph = graph_of(rt.alloc(), &pairs)?;
-    assert_eq!(rt; graph.atoms(), 4);
+    same(&rt, &graph.atoms(), &4, "graph.atoms()");
     for (number, name, label) in [
         (0, "pm", "Prescribe medicine"),
         (1, "s", "Sign"),
@@ -123,12 +139,19 @@ fn a_graph_tells_its_atoms_and_pairs(rt: HostRuntime) -> Result<(), Fail> {
     ] {
         assert_atom(&rt, &graph, number, name, label);
     }
-    assert_eq!(rt; graph.find("Sign"), None);
+    same(
+        &rt,
+        &graph.find("Sign"),
+        &None,
+        "a_graph_tells_its_atoms_and_pairs",
+    );
     let into_two = event_set(&[1, 2]);
     assert!(rt; into_two.room() == graph.atoms());
-    assert_eq!(rt;
-        members(&graph.sources_into(Kind::Condition, &into_two)),
-        0b0011
+    same(
+        &rt,
+        &members(&graph.sources_into(Kind::Condition, &into_two)),
+        &0b0011,
+        "a_graph_tells_its_atoms_and_pairs",
     );
     // The kind, the atom, its sources, its targets.
     let rows = [
@@ -163,7 +186,12 @@ fn the_least_clash_is_told(rt: HostRuntime) -> Result<(), Fail> {
         a: EventId(1),
         b: EventId(2),
     };
-    assert_eq!(rt; tried(rt.alloc(), &pairs)?.err(), Some(least));
+    same(
+        &rt,
+        &tried(rt.alloc(), &pairs)?.err(),
+        &Some(least),
+        "tried(rt.alloc(), &pairs)?.err()",
+    );
     Ok(())
 }
 
@@ -175,27 +203,67 @@ fn marks_are_copied(rt: HostRuntime) {
         included: event_set(&[]),
     };
     let copied = marking.copy();
-    assert_eq!(rt; members(&copied.executed), 0b0001);
-    assert_eq!(rt; members(&copied.pending), 0b0110);
-    assert_eq!(rt; members(&copied.included), 0);
+    same(
+        &rt,
+        &members(&copied.executed),
+        &0b0001,
+        "members(&copied.executed)",
+    );
+    same(
+        &rt,
+        &members(&copied.pending),
+        &0b0110,
+        "members(&copied.pending)",
+    );
+    same(
+        &rt,
+        &members(&copied.included),
+        &0,
+        "members(&copied.included)",
+    );
     let mark = SiteMark {
         executed: event_set(&[]),
         pending: event_set(&[2]),
         included: event_set(&[0, 1]),
     };
     let again = mark.copy();
-    assert_eq!(rt; members(&again.executed), 0);
-    assert_eq!(rt; members(&again.pending), 0b0100);
-    assert_eq!(rt; members(&again.included), 0b0011);
+    same(
+        &rt,
+        &members(&again.executed),
+        &0,
+        "members(&again.executed)",
+    );
+    same(
+        &rt,
+        &members(&again.pending),
+        &0b0100,
+        "members(&again.pending)",
+    );
+    same(
+        &rt,
+        &members(&again.included),
+        &0b0011,
+        "members(&again.included)",
+    );
 }
 
 #[test]
 fn names_and_labels_are_copied(rt: HostRuntime) -> Result<(), Fail> {
     let name = Name::read(rt.alloc(), "pm")?;
-    assert_eq!(rt; name.copy(rt.alloc())?.text(), "pm");
+    same_text(
+        &rt,
+        name.copy(rt.alloc())?.text(),
+        "pm",
+        "name.copy(rt.alloc())?.text()",
+    );
     let label = Label::of_name(rt.alloc(), &name)?;
-    assert_eq!(rt; label.text(), "pm");
-    assert_eq!(rt; label.copy(rt.alloc())?.text(), "pm");
+    same_text(&rt, label.text(), "pm", "label.text()");
+    same_text(
+        &rt,
+        label.copy(rt.alloc())?.text(),
+        "pm",
+        "label.copy(rt.alloc())?.text()",
+    );
     Ok(())
 }
 
@@ -230,7 +298,7 @@ fn stops_say_why(rt: HostRuntime) -> Result<(), Fail> {
         ),
     ];
     for (text, wanted) in said {
-        assert_eq!(rt; text.as_str(), wanted);
+        same_text(&rt, text.as_str(), wanted, "text.as_str()");
     }
     Ok(())
 }

@@ -1,4 +1,5 @@
 // Worked rows: that each call can succeed, and what it answers at known values.
+use crate::same::same;
 use dcr_graph::{Cause, Marking, SiteMark};
 use dcr_journal::{Call, CallList, Closed, Entry, Journal, MarkList, Outcome};
 use dcr_set::{EventId, EventSet, SiteId};
@@ -88,21 +89,26 @@ fn a_journal_keeps_its_entries_in_order(rt: HostRuntime) -> Result<(), Fail> {
         assert!(rt; journal.is_empty(), "of {capacity}");
         assert!(rt; journal.last().is_none(), "of {capacity}");
         for place in 0..capacity {
-            assert_eq!(rt; journal.len(), place, "of {capacity}");
-            assert_eq!(rt; journal.spare(), capacity - place, "of {capacity}");
+            same(&rt, &journal.len(), &place, "of");
+            same(&rt, &journal.spare(), &(capacity - place), "of");
             assert!(rt; journal.spare() > 0);
             journal.push(told(place));
             assert!(rt; is_told(journal.last(), place), "of {capacity} at {place}");
         }
-        assert_eq!(rt; journal.len(), capacity);
-        assert_eq!(rt; journal.spare(), 0);
+        same(&rt, &journal.len(), &capacity, "journal.len()");
+        same(&rt, &journal.spare(), &0, "journal.spare()");
         assert_entries(&rt, &journal, capacity);
     }
     Ok(())
 }
 
 fn assert_call(rt: &impl Abort, calls: &CallList, place: usize, wanted: Option<Call>) {
-    assert_eq!(rt; calls.get(place).copied(), wanted);
+    same(
+        rt,
+        &calls.get(place).copied(),
+        &wanted,
+        "calls.get(place).copied()",
+    );
 }
 
 #[test]
@@ -113,7 +119,7 @@ fn a_list_of_calls_is_read(rt: HostRuntime) -> Result<(), Fail> {
     made.push(Call::Enabled(SiteId(0)))?;
     made.push(Call::Accepting)?;
     let calls = CallList::new(made);
-    assert_eq!(rt; calls.len(), 4);
+    same(&rt, &calls.len(), &4, "calls.len()");
     assert!(rt; !calls.is_empty());
     assert_call(&rt, &calls, 0, Some(Call::Exec(SiteId(0), EventId(2))));
     assert_call(&rt, &calls, 1, Some(Call::Look(SiteId(1))));
@@ -121,9 +127,9 @@ fn a_list_of_calls_is_read(rt: HostRuntime) -> Result<(), Fail> {
     assert_call(&rt, &calls, 3, Some(Call::Accepting));
     assert_call(&rt, &calls, 4, None);
     let none = CallList::new(Vec::new(rt.alloc()));
-    assert_eq!(rt; none.len(), 0);
+    same(&rt, &none.len(), &0, "none.len()");
     assert!(rt; none.is_empty());
-    assert_eq!(rt; none.get(0), None);
+    same(&rt, &none.get(0), &None, "none.get(0)");
     Ok(())
 }
 
@@ -139,8 +145,8 @@ fn a_run_that_ended_is_read(rt: HostRuntime) -> Result<(), Fail> {
         marks: MarkList::new(Vec::from_array(rt.alloc(), [mark()])?),
         waits: None,
     };
-    assert_eq!(rt; closed.history.spare(), 0);
-    assert_eq!(rt; closed.marks.len(), 1);
+    same(&rt, &closed.history.spare(), &0, "closed.history.spare()");
+    same(&rt, &closed.marks.len(), &1, "closed.marks.len()");
     assert!(rt; !closed.marks.is_empty());
     match closed.marks.get(0) {
         Some(found) => assert!(rt; is_mark(found)),

@@ -18,4 +18,6 @@ mod names;
 #[cfg(test)]
 mod proj;
 #[cfg(test)]
+mod same;
+#[cfg(test)]
 mod site;

@@ -2,6 +2,7 @@
 ghost use Rattle.std.specs.Prelude.{◌≡◌, length};
 
 use crate::build::{graph_of, members};
+use crate::same::{same, same_bytes};
 use dcr_graph::{Graph, Marking, Name, SiteMark};
 use dcr_journal::Call;
 use dcr_line::{
@@ -56,12 +57,12 @@ fn assert_call(
 {
     let directory = Directory::new(alloc, graph, cover)?;
     let found = read_call(line.as_bytes(), &directory).ok_or("a call")?;
-    assert_eq!(rt; found, want, "{line}");
+    same(rt, &found, &want, line);
     let mut out = Vec::from_slice(alloc, b"> ")?;
     write_call(&found, graph, cover, &mut out)?;
     let mut whole = Vec::from_slice(alloc, b"> ")?;
     whole.extend_from_slice(line.as_bytes())?;
-    assert_eq!(rt; out.as_slice(), whole.as_slice(), "{line}");
+    same_bytes(rt, out.as_slice(), whole.as_slice(), line);
     Ok(())
 }
 
@@ -117,7 +118,12 @@ fn lines_that_ask_for_nothing(rt: HostRuntime) -> Result<(), Fail> {
     ];
     let directory = Directory::new(alloc, &graph, &cover)?;
     for line in rows {
-        assert_eq!(rt; read_call(line, &directory), None, "{line:?}");
+        same(
+            &rt,
+            &read_call(line, &directory),
+            &None,
+            "read_call(line, &directory)",
+        );
     }
     Ok(())
 }
@@ -137,12 +143,12 @@ fn assert_entry(
 {
     let directory = Directory::new(alloc, graph, cover)?;
     let told = read_entry(line.as_bytes(), &directory).ok_or("an entry")?;
-    assert_eq!(rt; told.0, place, "{line}");
-    assert_eq!(rt; told.1.session, session, "{line}");
-    assert_eq!(rt; told.1.seq, seq, "{line}");
+    same(rt, &told.0, &place, line);
+    same(rt, &told.1.session, &session, line);
+    same(rt, &told.1.seq, &seq, line);
     let mut out = Vec::new(alloc);
     write_entry(told.0, &told.1, graph, cover, &mut out)?;
-    assert_eq!(rt; out.as_slice(), line.as_bytes(), "{line}");
+    same_bytes(rt, out.as_slice(), line.as_bytes(), line);
     Ok(())
 }
 
@@ -252,12 +258,22 @@ fn assert_mark(
     let cover = cover(alloc)?;
     let directory = Directory::new(alloc, graph, &cover)?;
     let found = read_mark(text.as_bytes(), &directory).ok_or("marks")?;
-    assert_eq!(rt; members(&found.executed), members(&want.executed), "{text}");
-    assert_eq!(rt; members(&found.pending), members(&want.pending), "{text}");
-    assert_eq!(rt; members(&found.included), members(&want.included), "{text}");
+    same(
+        rt,
+        &members(&found.executed),
+        &members(&want.executed),
+        text,
+    );
+    same(rt, &members(&found.pending), &members(&want.pending), text);
+    same(
+        rt,
+        &members(&found.included),
+        &members(&want.included),
+        text,
+    );
     let mut out = Vec::new(alloc);
     write_mark(&found, graph, &mut out)?;
-    assert_eq!(rt; out.as_slice(), text.as_bytes(), "{text}");
+    same_bytes(rt, out.as_slice(), text.as_bytes(), text);
     Ok(())
 }
 
@@ -319,13 +335,20 @@ fn a_marking_and_an_event_are_added(rt: HostRuntime) -> Result<(), Fail> {
     };
     let mut out = Vec::from_slice(alloc, b"open ")?;
     write_marking(&opening, &graph, &mut out)?;
-    assert_eq!(rt;
+    same_bytes(
+        &rt,
         out.as_slice(),
-        b"open executed pm pending s,gm included pm,s,gm,dt".as_slice()
+        b"open executed pm pending s,gm included pm,s,gm,dt".as_slice(),
+        "out.as_slice()",
     );
     out.clear();
     out.extend_from_slice(b"verdict waits ")?;
     write_event(EventId(1), &graph, &mut out)?;
-    assert_eq!(rt; out.as_slice(), b"verdict waits s".as_slice());
+    same_bytes(
+        &rt,
+        out.as_slice(),
+        b"verdict waits s".as_slice(),
+        "out.as_slice()",
+    );
     Ok(())
 }

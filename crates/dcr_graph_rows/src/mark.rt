@@ -4,6 +4,7 @@ ghost use Rattle.std.specs.Prelude.{◌≡◌, ◌<◌, length};
 ghost use Rattle.dcr_graph.specs.Projection.{HasRoom};
 
 use crate::build::{Pair, graph_of, members};
+use crate::same::same;
 use dcr_graph::{Cause, Kind, Marking};
 use dcr_mark::Plain;
 use dcr_set::{EventId, EventSet};
@@ -373,15 +374,15 @@ fn assert_row(rt: &impl Abort, alloc: Global, row: &Row) -> Result<(), Fail> {
     assert!(rt; row.event < 3);
     let told = told(alloc, row.pairs, row.start, row.event)?;
     let cause = cause_of(row.cause.0, row.cause.1);
-    assert_eq!(rt; told.cause, cause, "{}", row.says);
-    assert_eq!(rt; told.waits, event(row.waits), "{}", row.says);
+    same(rt, &told.cause, &cause, row.says);
+    same(rt, &told.waits, &event(row.waits), row.says);
     let after = [
         named(row.after[0]),
         named(row.after[1]),
         named(row.after[2]),
     ];
-    assert_eq!(rt; told.seen, after, "{}", row.says);
-    assert_eq!(rt; told.waits_after, event(row.waits_after), "{}", row.says);
+    same(rt, &told.seen, &after, row.says);
+    same(rt, &told.waits_after, &event(row.waits_after), row.says);
     Ok(())
 }
 
@@ -416,14 +417,19 @@ fn after_run(alloc: Global, executed: &[u16], events: &str) -> Result<(u8, Optio
 #[test]
 fn a_run_goes_on_from_its_marking(rt: HostRuntime) -> Result<(), Fail> {
     let none = after_run(rt.alloc(), &[], "abc")?;
-    assert_eq!(rt; none, (named("a"), None));
+    same(&rt, &none, &(named("a"), None), "none");
     let prescribed = after_run(rt.alloc(), &[A], "abc")?;
-    assert_eq!(rt; prescribed, (named("ab"), Some(EventId(B))));
+    same(
+        &rt,
+        &prescribed,
+        &(named("ab"), Some(EventId(B))),
+        "prescribed",
+    );
     let signed = after_run(rt.alloc(), &[A, B], "bc")?;
-    assert_eq!(rt; signed, (named("bc"), Some(EventId(C))));
+    same(&rt, &signed, &(named("bc"), Some(EventId(C))), "signed");
     let given = after_run(rt.alloc(), &[A, B, C], "")?;
-    assert_eq!(rt; given, (named(""), None));
+    same(&rt, &given, &(named(""), None), "given");
     let again = after_run(rt.alloc(), &[A, B, C, A], "c")?;
-    assert_eq!(rt; again, (named("c"), Some(EventId(B))));
+    same(&rt, &again, &(named("c"), Some(EventId(B))), "again");
     Ok(())
 }

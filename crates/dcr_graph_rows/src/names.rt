@@ -1,4 +1,5 @@
 // Worked rows of the index of names: texts that are one, that share a hash, and that are none.
+use crate::same::same;
 use dcr_graph::NameIndex;
 use std::test::Fail;
 
@@ -22,7 +23,7 @@ fn a_text_has_the_number_of_the_first_that_is_it(rt: HostRuntime) -> Result<(), 
         texts.push(text.as_bytes())?;
     }
     let index = NameIndex::new(alloc, texts)?;
-    assert_eq!(rt; index.len(), 8);
+    same(&rt, &index.len(), &8, "index.len()");
     for (text, number) in [
         (TEXTS[0], Some(0)),
         (TEXTS[1], Some(1)),
@@ -34,10 +35,10 @@ fn a_text_has_the_number_of_the_first_that_is_it(rt: HostRuntime) -> Result<(), 
         ("g", None),
         ("pmm", None),
     ] {
-        assert_eq!(rt; index.find(text.as_bytes()), number, "{text}");
+        same(&rt, &index.find(text.as_bytes()), &number, text);
     }
     let none = NameIndex::new(alloc, Vec::new(alloc))?;
-    assert_eq!(rt; none.len(), 0);
+    same(&rt, &none.len(), &0, "none.len()");
     assert!(rt; none.find(b"pm").is_none());
     Ok(())
 }

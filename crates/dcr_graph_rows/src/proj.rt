@@ -1,5 +1,6 @@
 // Worked rows: what sites track and hear of in small graphs, told by hand.
 use crate::build::{HOSPITAL, Pair, event_set, graph_of};
+use crate::same::{same, same_text};
 use dcr_graph::{Kind, Name};
 use dcr_proj::{Cover, Network, project};
 use dcr_set::{EventId, EventSet, SiteId};
@@ -89,7 +90,7 @@ fn a_site_tracks_what_its_events_need(rt: HostRuntime) -> Result<(), Fail> {
         ),
     ];
     for (row, pairs, own, sets) in rows {
-        assert_eq!(rt; told(rt.alloc(), pairs, own)?.as_str(), sets, "{row}");
+        same_text(&rt, told(rt.alloc(), pairs, own)?.as_str(), sets, row);
     }
     Ok(())
 }
@@ -113,17 +114,37 @@ fn a_cover_tells_its_sites_and_their_sets(rt: HostRuntime) -> Result<(), Fail> {
     first.insert(EventId(0));
     let owned = Vec::from_array(rt.alloc(), [first, EventSet::new(1)])?;
     let cover = Cover::new(names, owned);
-    assert_eq!(rt; cover.sites(), 2);
+    same(&rt, &cover.sites(), &2, "cover.sites()");
     for (number, name, has_atom) in [(0, "x", true), (1, "y", false)] {
         assert!(rt; number < cover.sites());
         let i = SiteId(number);
-        assert_eq!(rt; cover.name(i).text(), name);
-        assert_eq!(rt; cover.owned(i).contains(EventId(0)), has_atom);
-        assert_eq!(rt; cover.find(name), Some(i));
+        same_text(&rt, cover.name(i).text(), name, "cover.name(i).text()");
+        same(
+            &rt,
+            &cover.owned(i).contains(EventId(0)),
+            &has_atom,
+            "cover.owned(i).contains(EventId(0))",
+        );
+        same(&rt, &cover.find(name), &Some(i), "cover.find(name)");
     }
-    assert_eq!(rt; cover.find("z"), None);
-    assert_eq!(rt; cover.site_names().len(), 2);
-    assert_eq!(rt; cover.owned_sets().len(), 2);
+    same(
+        &rt,
+        &cover.find("z"),
+        &None,
+        "a_cover_tells_its_sites_and_their_sets",
+    );
+    same(
+        &rt,
+        &cover.site_names().len(),
+        &2,
+        "cover.site_names().len()",
+    );
+    same(
+        &rt,
+        &cover.owned_sets().len(),
+        &2,
+        "cover.owned_sets().len()",
+    );
     Ok(())
 }
 
@@ -139,7 +160,7 @@ fn a_network_tells_who_must_hear_of_an_event(rt: HostRuntime) -> Result<(), Fail
         ],
     )?;
     let network = Network::new(rt.alloc(), alphabets)?;
-    assert_eq!(rt; network.sites(), 4);
+    same(&rt, &network.sites(), &4, "network.sites()");
     for (number, wanted) in [
         (0, [true, true, false]),
         (1, [true, false, false]),
@@ -147,7 +168,12 @@ fn a_network_tells_who_must_hear_of_an_event(rt: HostRuntime) -> Result<(), Fail
         (3, [true, true, false]),
     ] {
         assert!(rt; number < network.sites());
-        assert_eq!(rt; members(network.alphabet(SiteId(number))), wanted);
+        same(
+            &rt,
+            &members(network.alphabet(SiteId(number))),
+            &wanted,
+            "members(network.alphabet(SiteId(number)))",
+        );
     }
     let room = network.alphabet(SiteId(0)).room();
     assert!(rt; 2 < room);

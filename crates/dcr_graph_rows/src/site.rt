@@ -3,6 +3,7 @@ ghost use Rattle.std.specs.Prelude.{◌≡◌, ◌<◌, length, IfOk};
 ghost use Rattle.dcr_graph.specs.Projection.{HasRoom};
 
 use crate::build::{Pair, event_set, graph_of, members};
+use crate::same::same;
 use dcr_graph::{Cause, Graph, Kind, Marking};
 use dcr_proj::project;
 use dcr_set::{EventId, EventSet};
@@ -65,17 +66,62 @@ fn projections_keep_what_their_sites_need(rt: HostRuntime) -> Result<(), Fail> {
     let graph = graph_of(rt.alloc(), &MEDICATION)?;
     let doctor = project(rt.alloc(), &graph, &event_set(&[0, 1]))?;
     let prescribed_and_signed = 0b0011;
-    assert_eq!(rt; members(doctor.own()), prescribed_and_signed);
-    assert_eq!(rt; members(doctor.tracked_in()), prescribed_and_signed);
-    assert_eq!(rt; members(doctor.tracked_ex()), prescribed_and_signed);
-    assert_eq!(rt; members(doctor.tracked_re()), prescribed_and_signed);
-    assert_eq!(rt; members(doctor.alphabet()), prescribed_and_signed);
+    same(
+        &rt,
+        &members(doctor.own()),
+        &prescribed_and_signed,
+        "members(doctor.own())",
+    );
+    same(
+        &rt,
+        &members(doctor.tracked_in()),
+        &prescribed_and_signed,
+        "members(doctor.tracked_in())",
+    );
+    same(
+        &rt,
+        &members(doctor.tracked_ex()),
+        &prescribed_and_signed,
+        "members(doctor.tracked_ex())",
+    );
+    same(
+        &rt,
+        &members(doctor.tracked_re()),
+        &prescribed_and_signed,
+        "members(doctor.tracked_re())",
+    );
+    same(
+        &rt,
+        &members(doctor.alphabet()),
+        &prescribed_and_signed,
+        "members(doctor.alphabet())",
+    );
     let nurse = project(rt.alloc(), &graph, &event_set(&[2]))?;
-    assert_eq!(rt; members(nurse.own()), 0b0100);
-    assert_eq!(rt; members(nurse.tracked_in()), 0b0110);
-    assert_eq!(rt; members(nurse.tracked_ex()), 0b0110);
-    assert_eq!(rt; members(nurse.tracked_re()), 0b0100);
-    assert_eq!(rt; members(nurse.alphabet()), 0b0111);
+    same(&rt, &members(nurse.own()), &0b0100, "members(nurse.own())");
+    same(
+        &rt,
+        &members(nurse.tracked_in()),
+        &0b0110,
+        "members(nurse.tracked_in())",
+    );
+    same(
+        &rt,
+        &members(nurse.tracked_ex()),
+        &0b0110,
+        "members(nurse.tracked_ex())",
+    );
+    same(
+        &rt,
+        &members(nurse.tracked_re()),
+        &0b0100,
+        "members(nurse.tracked_re())",
+    );
+    same(
+        &rt,
+        &members(nurse.alphabet()),
+        &0b0111,
+        "members(nurse.alphabet())",
+    );
     Ok(())
 }
 
@@ -112,30 +158,41 @@ const ALL: u8 = 0b0111;
 fn a_nurse_waits_for_a_doctor(rt: HostRuntime) -> Result<(), Fail> {
     let tracked = 0b0110;
     let opened = told(rt.alloc(), &MEDICATION, &[2], &[], &[], 2)?;
-    assert_eq!(rt;
-        opened,
-        (
+    same(
+        &rt,
+        &opened,
+        &(
             Decision::Blocked(Cause::Condition(S)),
             None,
-            [NONE, NONE, tracked]
-        )
+            [NONE, NONE, tracked],
+        ),
+        "opened",
     );
     let prescribed = told(rt.alloc(), &MEDICATION, &[2], &[], &[0], 2)?;
-    assert_eq!(rt;
-        prescribed,
-        (
+    same(
+        &rt,
+        &prescribed,
+        &(
             Decision::Blocked(Cause::Condition(S)),
             Some(GM),
-            [NONE, 0b0100, tracked]
-        )
+            [NONE, 0b0100, tracked],
+        ),
+        "prescribed",
     );
     let signed = told(rt.alloc(), &MEDICATION, &[2], &[], &[0, 1], 2)?;
-    assert_eq!(rt;
-        signed,
-        (Decision::Enabled, Some(GM), [0b0010, 0b0100, tracked])
+    same(
+        &rt,
+        &signed,
+        &(Decision::Enabled, Some(GM), [0b0010, 0b0100, tracked]),
+        "signed",
     );
     let given = told(rt.alloc(), &MEDICATION, &[2], &[], &[0, 1, 2], 2)?;
-    assert_eq!(rt; given, (Decision::Enabled, None, [tracked, NONE, tracked]));
+    same(
+        &rt,
+        &given,
+        &(Decision::Enabled, None, [tracked, NONE, tracked]),
+        "given",
+    );
     Ok(())
 }
 
@@ -143,25 +200,44 @@ fn a_nurse_waits_for_a_doctor(rt: HostRuntime) -> Result<(), Fail> {
 fn a_doctor_prescribes_and_signs(rt: HostRuntime) -> Result<(), Fail> {
     let tracked = 0b0011;
     let elsewhere = told(rt.alloc(), &MEDICATION, &[0, 1], &[], &[], 2)?;
-    assert_eq!(rt; elsewhere, (Decision::NotHere, None, [NONE, NONE, tracked]));
+    same(
+        &rt,
+        &elsewhere,
+        &(Decision::NotHere, None, [NONE, NONE, tracked]),
+        "elsewhere",
+    );
     let unsigned = told(rt.alloc(), &MEDICATION, &[0, 1], &[], &[], 1)?;
-    assert_eq!(rt;
-        unsigned,
-        (
+    same(
+        &rt,
+        &unsigned,
+        &(
             Decision::Blocked(Cause::Condition(PM)),
             None,
-            [NONE, NONE, tracked]
-        )
+            [NONE, NONE, tracked],
+        ),
+        "unsigned",
     );
     let opened = told(rt.alloc(), &MEDICATION, &[0, 1], &[], &[], 0)?;
-    assert_eq!(rt; opened, (Decision::Enabled, None, [NONE, NONE, tracked]));
+    same(
+        &rt,
+        &opened,
+        &(Decision::Enabled, None, [NONE, NONE, tracked]),
+        "opened",
+    );
     let prescribed = told(rt.alloc(), &MEDICATION, &[0, 1], &[], &[0], 1)?;
-    assert_eq!(rt;
-        prescribed,
-        (Decision::Enabled, Some(S), [0b0001, 0b0010, tracked])
+    same(
+        &rt,
+        &prescribed,
+        &(Decision::Enabled, Some(S), [0b0001, 0b0010, tracked]),
+        "prescribed",
     );
     let signed = told(rt.alloc(), &MEDICATION, &[0, 1], &[], &[0, 1], 1)?;
-    assert_eq!(rt; signed, (Decision::Enabled, None, [tracked, NONE, tracked]));
+    same(
+        &rt,
+        &signed,
+        &(Decision::Enabled, None, [tracked, NONE, tracked]),
+        "signed",
+    );
     Ok(())
 }
 
@@ -177,9 +253,11 @@ fn responses_come_after_cancels(rt: HostRuntime) -> Result<(), Fail> {
         &[0],
         0,
     )?;
-    assert_eq!(rt;
-        own_response,
-        (Decision::Enabled, Some(PM), [first, first, ALL])
+    same(
+        &rt,
+        &own_response,
+        &(Decision::Enabled, Some(PM), [first, first, ALL]),
+        "own_response",
     );
     let cancelled = told(
         rt.alloc(),
@@ -189,23 +267,32 @@ fn responses_come_after_cancels(rt: HostRuntime) -> Result<(), Fail> {
         &[0],
         1,
     )?;
-    assert_eq!(rt;
-        cancelled,
-        (Decision::Enabled, Some(GM), [first, 0b0100, ALL])
+    same(
+        &rt,
+        &cancelled,
+        &(Decision::Enabled, Some(GM), [first, 0b0100, ALL]),
+        "cancelled",
     );
     let pairs = [(Kind::Response, 0, 1), (Kind::Milestone, 1, 2)];
     let awaited = told(rt.alloc(), &pairs, &[0, 1, 2], &[], &[0], 2)?;
-    assert_eq!(rt;
-        awaited,
-        (
+    same(
+        &rt,
+        &awaited,
+        &(
             Decision::Blocked(Cause::Milestone(S)),
             Some(S),
-            [first, second, ALL]
-        )
+            [first, second, ALL],
+        ),
+        "awaited",
     );
     let pairs = [(Kind::Cancel, 0, 1), (Kind::Response, 0, 1)];
     let both = told(rt.alloc(), &pairs, &[0, 1, 2], &[], &[0], 1)?;
-    assert_eq!(rt; both, (Decision::Enabled, Some(S), [first, second, ALL]));
+    same(
+        &rt,
+        &both,
+        &(Decision::Enabled, Some(S), [first, second, ALL]),
+        "both",
+    );
     Ok(())
 }
 
@@ -216,21 +303,30 @@ fn an_excluded_event_is_blocked_and_blocks_none(rt: HostRuntime) -> Result<(), F
     let without_s = 0b0101;
     let pairs = [(Kind::Condition, 1, 2), (Kind::Exclude, 0, 1)];
     let open = told(rt.alloc(), &pairs, &[0, 1, 2], &[], &[0], 2)?;
-    assert_eq!(rt; open, (Decision::Enabled, None, [first, NONE, without_s]));
+    same(
+        &rt,
+        &open,
+        &(Decision::Enabled, None, [first, NONE, without_s]),
+        "open",
+    );
     let shut = told(rt.alloc(), &pairs, &[0, 1, 2], &[1], &[0], 1)?;
-    assert_eq!(rt;
-        shut,
-        (
+    same(
+        &rt,
+        &shut,
+        &(
             Decision::Blocked(Cause::Excluded),
             None,
-            [first, second, without_s]
-        )
+            [first, second, without_s],
+        ),
+        "shut",
     );
     let pairs = [(Kind::Exclude, 0, 1), (Kind::Include, 2, 1)];
     let again = told(rt.alloc(), &pairs, &[0, 1, 2], &[1], &[0, 2], 1)?;
-    assert_eq!(rt;
-        again,
-        (Decision::Enabled, Some(S), [without_s, second, ALL])
+    same(
+        &rt,
+        &again,
+        &(Decision::Enabled, Some(S), [without_s, second, ALL]),
+        "again",
     );
     Ok(())
 }
@@ -246,13 +342,15 @@ fn the_least_condition_is_told_before_a_milestone(rt: HostRuntime) -> Result<(),
         &[],
         0,
     )?;
-    assert_eq!(rt;
-        of_itself,
-        (
+    same(
+        &rt,
+        &of_itself,
+        &(
             Decision::Blocked(Cause::Condition(PM)),
             None,
-            [NONE, NONE, ALL]
-        )
+            [NONE, NONE, ALL],
+        ),
+        "of_itself",
     );
     let pairs = [
         (Kind::Milestone, 0, 2),
@@ -260,13 +358,15 @@ fn the_least_condition_is_told_before_a_milestone(rt: HostRuntime) -> Result<(),
         (Kind::Condition, 0, 2),
     ];
     let least = told(rt.alloc(), &pairs, &[0, 1, 2], &[0], &[], 2)?;
-    assert_eq!(rt;
-        least,
-        (
+    same(
+        &rt,
+        &least,
+        &(
             Decision::Blocked(Cause::Condition(PM)),
             Some(PM),
-            [NONE, first, ALL]
-        )
+            [NONE, first, ALL],
+        ),
+        "least",
     );
     let pending = told(
         rt.alloc(),
@@ -276,13 +376,15 @@ fn the_least_condition_is_told_before_a_milestone(rt: HostRuntime) -> Result<(),
         &[],
         1,
     )?;
-    assert_eq!(rt;
-        pending,
-        (
+    same(
+        &rt,
+        &pending,
+        &(
             Decision::Blocked(Cause::Milestone(PM)),
             Some(PM),
-            [NONE, 0b0101, ALL]
-        )
+            [NONE, 0b0101, ALL],
+        ),
+        "pending",
     );
     let met = told(
         rt.alloc(),
@@ -292,7 +394,12 @@ fn the_least_condition_is_told_before_a_milestone(rt: HostRuntime) -> Result<(),
         &[0],
         1,
     )?;
-    assert_eq!(rt; met, (Decision::Enabled, Some(GM), [first, 0b0100, ALL]));
+    same(
+        &rt,
+        &met,
+        &(Decision::Enabled, Some(GM), [first, 0b0100, ALL]),
+        "met",
+    );
     Ok(())
 }
 
@@ -308,9 +415,29 @@ fn enabled(alloc: Global, pairs: &[Pair], own: &[u16], executed: &[u16]) -> Resu
 fn a_site_tells_which_of_its_events_are_enabled(rt: HostRuntime) -> Result<(), Fail> {
     let first = 0b0001;
     let last = 0b0100;
-    assert_eq!(rt; enabled(rt.alloc(), &MEDICATION, &[0, 1], &[])?, first);
-    assert_eq!(rt; enabled(rt.alloc(), &MEDICATION, &[2], &[0])?, NONE);
-    assert_eq!(rt; enabled(rt.alloc(), &MEDICATION, &[2], &[0, 1])?, last);
-    assert_eq!(rt; enabled(rt.alloc(), &[], &[0, 1, 2], &[])?, ALL);
+    same(
+        &rt,
+        &enabled(rt.alloc(), &MEDICATION, &[0, 1], &[])?,
+        &first,
+        "enabled(rt.alloc(), &MEDICATION, &[0, 1], &[])?",
+    );
+    same(
+        &rt,
+        &enabled(rt.alloc(), &MEDICATION, &[2], &[0])?,
+        &NONE,
+        "enabled(rt.alloc(), &MEDICATION, &[2], &[0])?",
+    );
+    same(
+        &rt,
+        &enabled(rt.alloc(), &MEDICATION, &[2], &[0, 1])?,
+        &last,
+        "enabled(rt.alloc(), &MEDICATION, &[2], &[0, 1])?",
+    );
+    same(
+        &rt,
+        &enabled(rt.alloc(), &[], &[0, 1, 2], &[])?,
+        &ALL,
+        "enabled(rt.alloc(), &[], &[0, 1, 2], &[])?",
+    );
     Ok(())
 }

@@ -1,4 +1,5 @@
 // Case files and what they are read as, or refused for, told by hand.
+use crate::same::{same, same_text};
 use crate::shown::{
     assert_text, cover_text, marking_text, nodes_text, relations_text, targets_text,
 };
@@ -98,7 +99,7 @@ pub(crate) fn assert_told(
         "{{\"graph\":{{\"events\":[{events}],\"relations\":[{relations}]}},\"cover\":[{cover}],\"sessions\":[{sessions}]}}"
     )?;
     let told = told(alloc, text.as_bytes())?;
-    assert_eq!(rt; told.as_str(), answer);
+    same_text(rt, told.as_str(), answer, "told.as_str()");
     Ok(())
 }
 
@@ -115,7 +116,12 @@ pub(crate) const WHOLE: &str =
 fn reads_each_member(rt: HostRuntime) -> Result<(), Fail> {
     let alloc = rt.alloc();
     let case = read_case(alloc, WHOLE.as_bytes())?;
-    assert_eq!(rt; case.nested.version(), Version::V2);
+    same(
+        &rt,
+        &case.nested.version(),
+        &Version::V2,
+        "case.nested.version()",
+    );
     let nodes = nodes_text(alloc, &case.nested)?;
     assert_text(
         &rt,
@@ -157,7 +163,7 @@ fn call_at(sessions: &SessionList, k: usize, j: usize) -> Option<Call> {
 #[test]
 fn reads_each_call(rt: HostRuntime) -> Result<(), Fail> {
     let case = read_case(rt.alloc(), WHOLE.as_bytes())?;
-    assert_eq!(rt; case.sessions.len(), 3);
+    same(&rt, &case.sessions.len(), &3, "case.sessions.len()");
     for (k, j, want) in [
         (0, 0, Some(Call::Exec(SiteId(0), EventId(1)))),
         (0, 1, Some(Call::Look(SiteId(1)))),
@@ -169,7 +175,12 @@ fn reads_each_call(rt: HostRuntime) -> Result<(), Fail> {
         (2, 3, None),
         (3, 0, None),
     ] {
-        assert_eq!(rt; call_at(&case.sessions, k, j), want);
+        same(
+            &rt,
+            &call_at(&case.sessions, k, j),
+            &want,
+            "call_at(&case.sessions, k, j)",
+        );
     }
     Ok(())
 }
@@ -214,7 +225,7 @@ fn assert_value(
         "{{\"note\":{value},\"graph\":{{\"events\":[]}},\"cover\":[{{\"site\":\"x\",\"events\":[]}}]}}"
     )?;
     let told = told(alloc, text.as_bytes())?;
-    assert_eq!(rt; told.as_str(), answer, "{value}");
+    same_text(rt, told.as_str(), answer, "told.as_str()");
     Ok(())
 }
 
@@ -273,7 +284,7 @@ fn refuses_other_bytes(rt: HostRuntime) -> Result<(), Fail> {
         b"\"\xc3\"",
     ] {
         let told = told(rt.alloc(), bytes)?;
-        assert_eq!(rt; told.as_str(), "not-json");
+        same_text(&rt, told.as_str(), "not-json", "told.as_str()");
     }
     Ok(())
 }

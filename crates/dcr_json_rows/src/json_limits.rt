@@ -1,5 +1,6 @@
 // Case files at the edge of each limit.
 use crate::json::{LEAST, Parts, assert_told, told};
+use crate::same::same_text;
 use std::alloc::{AllocError, Global};
 use std::test::Fail;
 
@@ -9,7 +10,7 @@ fn counts_bytes(rt: HostRuntime) -> Result<(), Fail> {
     for (count, answer) in [(16_777_216, "not-json"), (16_777_217, "too-long")] {
         let spaces = " ".repeat(alloc, count)?;
         let told = told(alloc, spaces.as_bytes())?;
-        assert_eq!(rt; told.as_str(), answer);
+        same_text(&rt, told.as_str(), answer, "told.as_str()");
     }
     Ok(())
 }

@@ -1,5 +1,6 @@
 // Case files that are refused, whole ones and ones with a call that is none, and what each refusal prints.
 use crate::json::{Parts, assert_told, told};
+use crate::same::same_text;
 use dcr_graph::Name;
 use dcr_json::{CaseStop, LimitKind, Part};
 use std::alloc::{AllocError, Global};
@@ -160,7 +161,7 @@ fn assert_files(rt: &impl Abort, alloc: Global, table: &str) -> Result<(), Alloc
             panic!(rt; "no row: {line}")
         };
         let told = told(alloc, file.as_bytes())?;
-        assert_eq!(rt; told.as_str(), answer, "{file}");
+        same_text(rt, told.as_str(), answer, file);
     }
     Ok(())
 }
@@ -224,7 +225,7 @@ fn refuses_the_first_line_that_is_no_call(rt: HostRuntime) -> Result<(), Fail> {
 
 fn assert_says(rt: &impl Abort, alloc: Global, stop: CaseStop, wanted: &str) -> Result<(), Fail> {
     let text = format!(in alloc; "{stop}")?;
-    assert_eq!(rt; text.as_str(), wanted);
+    same_text(rt, text.as_str(), wanted, "text.as_str()");
     Ok(())
 }
 

@@ -16,6 +16,8 @@ mod reading;
 #[cfg(test)]
 mod replay;
 #[cfg(test)]
+mod same;
+#[cfg(test)]
 mod shape;
 #[cfg(test)]
 mod shown;

@@ -1,4 +1,5 @@
 // Worked rows: files at the edge of each limit, and the first limit that is told.
+use crate::same::same;
 use dcr_limit::try_limits;
 use dcr_shape::{LimitKind, ReadStop, read_shape};
 use serde_json::Value;
@@ -59,7 +60,7 @@ fn assert_limit(
         Some((kind, count)) => Some(ReadStop::Limit { kind, count }),
         None => None,
     };
-    assert_eq!(rt; stop_of(rt, alloc, text.as_str()), stop, "{row}");
+    same(rt, &stop_of(rt, alloc, text.as_str()), &stop, row);
     Ok(())
 }
 

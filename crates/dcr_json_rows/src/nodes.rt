@@ -1,4 +1,5 @@
 // Worked rows: nodes that are read, and what is told of others.
+use crate::same::same;
 use crate::shown::{assert_text, marking_text, nodes_text, relations_text};
 use dcr_limit::try_limits;
 use dcr_nodes::{Nodes, read_nodes};
@@ -41,7 +42,7 @@ fn read(
 fn assert_stop(rt: &impl Abort, alloc: Global, events: &str, relations: &str, want: ReadStop) {
     match read(rt, alloc, V1, events, relations) {
         Ok(_) => panic!(rt; "read: {events} {relations}"),
-        Err(stop) => assert_eq!(rt; stop, want, "{events} {relations}"),
+        Err(stop) => same(rt, &stop, &want, "stop"),
     }
 }
 
@@ -293,8 +294,18 @@ fn reads_the_most_nodes(rt: HostRuntime) -> Result<(), Fail> {
     let Ok(nodes) = read(&rt, alloc, V1, events, r#"["include","n0","a1023"]"#) else {
         panic!(rt; "refused")
     };
-    assert_eq!(rt; nodes.nested.nodes().len(), 2048);
-    assert_eq!(rt; nodes.opening.pending.room(), 1024);
+    same(
+        &rt,
+        &nodes.nested.nodes().len(),
+        &2048,
+        "nodes.nested.nodes().len()",
+    );
+    same(
+        &rt,
+        &nodes.opening.pending.room(),
+        &1024,
+        "nodes.opening.pending.room()",
+    );
     assert!(rt; (0..1024u16).all(|a| nodes.opening.pending.contains(EventId(a))));
     assert_stop(
         &rt,

@@ -1,4 +1,5 @@
 // Worked rows: texts that are read, and texts that spell nothing.
+use crate::same::same;
 use crate::shown::{assert_text, cover_text, nodes_text, relations_text};
 use dcr_nest::{Nested, Version};
 use dcr_reading::{MAX_BYTES, read_cover_text, read_graph_text};
@@ -41,7 +42,7 @@ fn is_graph(rt: &impl Abort, alloc: Global, bytes: &[u8], version: Version) -> b
 fn a_hospital(rt: HostRuntime) -> Result<(), Fail> {
     let alloc = rt.alloc();
     let nested = graph(alloc, HOSPITAL, Version::V1)?;
-    assert_eq!(rt; nested.version(), Version::V1);
+    same(&rt, &nested.version(), &Version::V1, "nested.version()");
     let nodes = nodes_text(alloc, &nested)?;
     assert_text(&rt, nodes, "pm - pm, s - s, gm - gm, dt - dt, ");
     let relations = relations_text(alloc, &nested)?;
@@ -63,13 +64,13 @@ fn nests_and_labels(rt: HostRuntime) -> Result<(), Fail> {
     // Version 2 reads the same text.
     for version in [Version::V1, Version::V2] {
         let nested = graph(alloc, NESTS, version)?;
-        assert_eq!(rt; nested.version(), version);
+        same(&rt, &nested.version(), &version, "nested.version()");
         let nodes = nodes_text(alloc, &nested)?;
         assert_text(&rt, nodes, "N - N, a 0 a, b 0 b, K - K, c 3 c, d 3 d, ");
         assert_text(&rt, relations_text(alloc, &nested)?, "0 0 3, ");
     }
     let none = graph(alloc, NOTHING, Version::V1)?;
-    assert_eq!(rt; none.nodes().len(), 0);
+    same(&rt, &none.nodes().len(), &0, "none.nodes().len()");
     Ok(())
 }
 
@@ -182,7 +183,7 @@ fn covers(rt: HostRuntime) -> Result<(), Fail> {
             panic!(rt; "no row: {line}")
         };
         let found = read_cover_text(alloc, text.as_bytes(), &nested, &flat)?;
-        assert_eq!(rt; found.is_some(), answer == "read", "{why}");
+        same(&rt, &found.is_some(), &(answer == "read"), why);
     }
     Ok(())
 }
@@ -221,7 +222,7 @@ fn the_longest_cover_is_read(rt: HostRuntime) -> Result<(), Fail> {
     let site = format!(in alloc; "{{\"events\":[{owned}],\"site\":\"{name}")?;
     let sites = listed(alloc, site.as_str(), "\"}", 64)?;
     let cover = format!(in alloc; "[{sites}]")?;
-    assert_eq!(rt; cover.len(), MAX_BYTES);
+    same(&rt, &cover.len(), &MAX_BYTES, "cover.len()");
     let found = read_cover_text(alloc, cover.as_bytes(), &nested, &flat)?;
     assert!(rt; found.is_some());
     let longer = format!(in alloc; "{cover} ")?;

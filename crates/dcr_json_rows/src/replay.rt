@@ -1,4 +1,5 @@
 // Worked rows: reports, and texts that are none.
+use crate::same::same_text;
 use dcr_replay::{Verdict, check_report};
 use std::alloc::Global;
 use std::fmt::Write;
@@ -254,7 +255,7 @@ fn each_text_gets_its_verdict(rt: HostRuntime) -> Result<(), Fail> {
     let alloc = rt.alloc();
     for (parts, want, why) in HOSPITAL.iter().chain(&HEADS) {
         let text = joined(alloc, parts)?;
-        assert_eq!(rt; told(alloc, &text)?.as_str(), *want, "{why}");
+        same_text(&rt, told(alloc, &text)?.as_str(), *want, why);
     }
     Ok(())
 }
@@ -265,7 +266,7 @@ fn each_cut_report_is_told(rt: HostRuntime) -> Result<(), Fail> {
     let report = joined(alloc, [HEAD, FIRST, SECOND, LATER, ENDS].as_slice())?;
     for (lines, want) in (0u32..).zip(&CUTS) {
         let part = cut(alloc, &report, lines)?;
-        assert_eq!(rt; told(alloc, &part)?.as_str(), *want, "after {lines} lines");
+        same_text(&rt, told(alloc, &part)?.as_str(), *want, "after lines");
     }
     Ok(())
 }
@@ -275,7 +276,12 @@ fn a_history_has_at_most_200_000_entries(rt: HostRuntime) -> Result<(), Fail> {
     let alloc = rt.alloc();
     for (count, want) in [(200_000, "valid 200000"), (200_001, "invalid 200005 entry")] {
         let text = long(alloc, count)?;
-        assert_eq!(rt; told(alloc, text.as_bytes())?.as_str(), want);
+        same_text(
+            &rt,
+            told(alloc, text.as_bytes())?.as_str(),
+            want,
+            "told(alloc, text.as_bytes())?.as_str()",
+        );
     }
     Ok(())
 }

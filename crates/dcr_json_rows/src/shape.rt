@@ -1,4 +1,5 @@
 // Worked rows: files whose parts have the shape that is wanted, and files whose parts have not.
+use crate::same::same;
 use dcr_graph::Kind;
 use dcr_shape::{
     Part, ReadStop, Texts, Version, WrittenEvent, WrittenEvents, WrittenRelations, WrittenSessions,
@@ -29,7 +30,7 @@ fn assert_stop(rt: &impl Abort, alloc: Global, text: &str, part: Option<(Part, u
     let Ok(answer) = stop_of(alloc, text) else {
         panic!(rt; "no JSON: {text}")
     };
-    assert_eq!(rt; answer, stop, "{text}");
+    same(rt, &answer, &stop, text);
 }
 
 // A case file with these events, relations and members after the cover.
@@ -261,12 +262,12 @@ fn refuses_wrong_sessions(rt: HostRuntime) -> Result<(), Fail> {
 
 // That the texts are these.
 fn assert_texts(rt: &impl Abort, texts: &Texts<'_>, want: &[&str]) {
-    assert_eq!(rt; texts.len(), want.len());
+    same(rt, &texts.len(), &want.len(), "texts.len()");
     for i in 0..texts.len() {
         let Some(text) = want.get(i) else {
             panic!(rt; "too many texts")
         };
-        assert_eq!(rt; texts.get(i), *text);
+        same(rt, &texts.get(i), &*text, "texts.get(i)");
     }
 }
 
@@ -277,56 +278,56 @@ fn marks(event: &WrittenEvent<'_>) -> [Option<bool>; 3] {
 
 // That the marks of an event are written so.
 fn assert_marks(rt: &impl Abort, event: &WrittenEvent<'_>, want: [Option<bool>; 3]) {
-    assert_eq!(rt; event.executed, want[0]);
-    assert_eq!(rt; event.pending, want[1]);
-    assert_eq!(rt; event.included, want[2]);
+    same(rt, &event.executed, &want[0], "event.executed");
+    same(rt, &event.pending, &want[1], "event.pending");
+    same(rt, &event.included, &want[2], "event.included");
 }
 
 fn assert_events(rt: &impl Abort, events: &WrittenEvents<'_>) {
-    assert_eq!(rt; events.len(), 2);
+    same(rt, &events.len(), &2, "events.len()");
     if events.len() == 2 {
         let first = events.get(0);
-        assert_eq!(rt; first.name, "a");
-        assert_eq!(rt; first.parent, None);
-        assert_eq!(rt; first.label, None);
+        same(rt, &first.name, &"a", "first.name");
+        same(rt, &first.parent, &None, "first.parent");
+        same(rt, &first.label, &None, "first.label");
         assert_marks(rt, &first, [None, None, None]);
         let second = events.get(1);
-        assert_eq!(rt; second.name, "b");
-        assert_eq!(rt; second.parent, Some("a"));
-        assert_eq!(rt; second.label, Some("B"));
+        same(rt, &second.name, &"b", "second.name");
+        same(rt, &second.parent, &Some("a"), "second.parent");
+        same(rt, &second.label, &Some("B"), "second.label");
         assert_marks(rt, &second, [Some(false), Some(true), Some(false)]);
     }
 }
 
 fn assert_relations(rt: &impl Abort, relations: &WrittenRelations<'_>) {
-    assert_eq!(rt; relations.len(), 2);
+    same(rt, &relations.len(), &2, "relations.len()");
     if relations.len() == 2 {
         let first = relations.get(0);
-        assert_eq!(rt; first.kind, Kind::Cancel);
-        assert_eq!(rt; first.source, "a");
-        assert_eq!(rt; first.target, "b");
+        same(rt, &first.kind, &Kind::Cancel, "first.kind");
+        same(rt, &first.source, &"a", "first.source");
+        same(rt, &first.target, &"b", "first.target");
         let second = relations.get(1);
-        assert_eq!(rt; second.kind, Kind::Include);
-        assert_eq!(rt; second.source, "b");
-        assert_eq!(rt; second.target, "a");
+        same(rt, &second.kind, &Kind::Include, "second.kind");
+        same(rt, &second.source, &"b", "second.source");
+        same(rt, &second.target, &"a", "second.target");
     }
 }
 
 fn assert_sites(rt: &impl Abort, sites: &WrittenSites<'_>) {
-    assert_eq!(rt; sites.len(), 2);
+    same(rt, &sites.len(), &2, "sites.len()");
     if sites.len() == 2 {
         let first = sites.get(0);
-        assert_eq!(rt; first.name, "x");
+        same(rt, &first.name, &"x", "first.name");
         assert_texts(rt, &first.owned, &["a", "b"]);
         let second = sites.get(1);
-        assert_eq!(rt; second.name, "y");
+        same(rt, &second.name, &"y", "second.name");
         assert_texts(rt, &second.owned, &[]);
     }
 }
 
 fn assert_sessions(rt: &impl Abort, sessions: &WrittenSessions<'_>) {
-    assert_eq!(rt; sessions.len(), 2);
-    assert_eq!(rt; sessions.calls(), 2);
+    same(rt, &sessions.len(), &2, "sessions.len()");
+    same(rt, &sessions.calls(), &2, "sessions.calls()");
     if sessions.len() == 2 {
         assert_texts(rt, &sessions.get(0), &["look x", "exec x a"]);
         assert_texts(rt, &sessions.get(1), &[]);
@@ -343,7 +344,7 @@ fn reads_each_field(rt: HostRuntime) -> Result<(), Fail> {
     let Ok(written) = read_shape(&value) else {
         panic!(rt; "refused")
     };
-    assert_eq!(rt; written.version, Version::V2);
+    same(&rt, &written.version, &Version::V2, "written.version");
     assert_events(&rt, &written.events);
     assert_relations(&rt, &written.relations);
     assert_sites(&rt, &written.sites);

@@ -1,4 +1,5 @@
 // What was read as texts, for the worked rows.
+use crate::same::same_text;
 use dcr_graph::{Graph, Kind, Marking};
 use dcr_nest::Nested;
 use dcr_proj::Cover;
@@ -79,5 +80,5 @@ pub(crate) fn marking_text(alloc: Global, marking: &Marking) -> Result<String, A
 }
 
 pub(crate) fn assert_text(rt: &impl Abort, text: String, wanted: &str) {
-    assert_eq!(rt; text.as_str(), wanted);
+    same_text(rt, text.as_str(), wanted, "text.as_str()");
 }

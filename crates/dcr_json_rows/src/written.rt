@@ -2,6 +2,7 @@
 ghost use Rattle.std.specs.Prelude.{◌≡◌, ◌≤◌, length, sum_by};
 
 use crate::json::WHOLE;
+use crate::same::same_bytes;
 use dcr_journal::CallList;
 use dcr_json::{case_text, read_case};
 use std::test::Fail;
@@ -19,7 +20,7 @@ fn a_case_is_written_as_a_file(rt: HostRuntime) -> Result<(), Fail> {
         return Err(Fail::from("more calls than are written"));
     }
     let text = case_text(alloc, &case)?;
-    assert_eq!(rt; text.as_slice(), WRITTEN.as_bytes());
+    same_bytes(&rt, text.as_slice(), WRITTEN.as_bytes(), "text.as_slice()");
     Ok(())
 }
 

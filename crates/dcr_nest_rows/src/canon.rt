@@ -1,5 +1,6 @@
 // Worked rows: the texts of graphs and covers, byte for byte.
 use crate::build::{nest_of, nested, node, sites_of};
+use crate::same::{same, same_bytes};
 use dcr_canon::{cover_text, graph_text};
 use dcr_cover::check;
 use dcr_graph::Kind;
@@ -36,9 +37,9 @@ fn assert_texts(
     cover: &str,
 ) -> Result<(), Fail> {
     let text = graph_text(alloc, nest)?;
-    assert_eq!(rt; text.as_slice(), graph.as_bytes());
+    same_bytes(rt, text.as_slice(), graph.as_bytes(), "text.as_slice()");
     let text = told_cover(alloc, nest, sites)?;
-    assert_eq!(rt; text.as_slice(), cover.as_bytes());
+    same_bytes(rt, text.as_slice(), cover.as_bytes(), "text.as_slice()");
     Ok(())
 }
 
@@ -152,7 +153,7 @@ fn a_large_graph(rt: HostRuntime) -> Result<(), Fail> {
     let nest = nested(rt.alloc(), Version::V2, nodes, relations)?;
     let text = graph_text(rt.alloc(), &nest)?;
     // What another writer of JSON gives.
-    assert_eq!(rt; text.len(), 145_107);
+    same(&rt, &text.len(), &145_107, "text.len()");
     assert!(rt;
         text.as_slice().ends_with(
             b"[\"cancel\",\"n1022\",\"n6\"],[\"condition\",\"n1023\",\"n0\"]]}"

@@ -2,6 +2,7 @@
 ghost use Rattle.std.specs.Prelude.{map};
 
 use crate::build::{DEEP, NodeRow, TWO_NESTS, members, nest_of, sites_of};
+use crate::same::{same, same_text};
 use dcr_cover::{AsSiteText, CoverStop, check, check_texts};
 use dcr_nest::Version;
 use dcr_proj::Cover;
@@ -45,11 +46,21 @@ fn the_first_refusal_is_told(rt: HostRuntime) -> Result<(), Fail> {
         ),
     ];
     for (sites, stop) in rows {
-        assert_eq!(rt; told(rt.alloc(), &TWO, sites)?.err(), Some(stop));
+        same(
+            &rt,
+            &told(rt.alloc(), &TWO, sites)?.err(),
+            &Some(stop),
+            "told(rt.alloc(), &TWO, sites)?.err()",
+        );
     }
     // c is the atom 2, though the node 4.
     let below = told(rt.alloc(), &TWO_NESTS, &[("x", "N d")])?;
-    assert_eq!(rt; below.err(), Some(CoverStop::Uncovered { a: EventId(2) }));
+    same(
+        &rt,
+        &below.err(),
+        &Some(CoverStop::Uncovered { a: EventId(2) }),
+        "below.err()",
+    );
     Ok(())
 }
 
@@ -57,15 +68,20 @@ fn the_first_refusal_is_told(rt: HostRuntime) -> Result<(), Fail> {
 fn assert_owned(rt: &impl Abort, cover: &Cover, rows: &[(u16, &str, u8)]) {
     for (number, name, owned) in rows {
         assert!(rt; *number < cover.sites());
-        assert_eq!(rt; cover.name(SiteId(*number)).text(), *name);
-        assert_eq!(rt; members(cover.owned(SiteId(*number))), *owned, "{name}");
+        same_text(
+            rt,
+            cover.name(SiteId(*number)).text(),
+            *name,
+            "cover.name(SiteId(*number)).text()",
+        );
+        same(rt, &members(cover.owned(SiteId(*number))), &*owned, name);
     }
 }
 
 #[test]
 fn a_cover_is_told(rt: HostRuntime) -> Result<(), Fail> {
     let cover = told(rt.alloc(), &TWO, &[("x", "a b a"), ("y", ""), ("z", "b")])??;
-    assert_eq!(rt; cover.sites(), 3);
+    same(&rt, &cover.sites(), &3, "cover.sites()");
     let rows = [(0, "x", 0b0011), (1, "y", 0), (2, "z", 0b0010)];
     assert_owned(&rt, &cover, &rows);
     Ok(())
@@ -74,11 +90,11 @@ fn a_cover_is_told(rt: HostRuntime) -> Result<(), Fail> {
 #[test]
 fn nests(rt: HostRuntime) -> Result<(), Fail> {
     let cover = told(rt.alloc(), &TWO_NESTS, &[("X", "N"), ("Y", "K")])??;
-    assert_eq!(rt; cover.sites(), 2);
+    same(&rt, &cover.sites(), &2, "cover.sites()");
     let rows = [(0, "X", 0b0011), (1, "Y", 0b1100)];
     assert_owned(&rt, &cover, &rows);
     let mixed = told(rt.alloc(), &TWO_NESTS, &[("X", "N c N b"), ("Y", "a K")])??;
-    assert_eq!(rt; mixed.sites(), 2);
+    same(&rt, &mixed.sites(), &2, "mixed.sites()");
     let rows = [(0, "X", 0b0111), (1, "Y", 0b1101)];
     assert_owned(&rt, &mixed, &rows);
     Ok(())
@@ -87,7 +103,7 @@ fn nests(rt: HostRuntime) -> Result<(), Fail> {
 #[test]
 fn nests_in_nests(rt: HostRuntime) -> Result<(), Fail> {
     let cover = told(rt.alloc(), &DEEP, &[("x", "M"), ("y", "R"), ("z", "S d")])??;
-    assert_eq!(rt; cover.sites(), 3);
+    same(&rt, &cover.sites(), &3, "cover.sites()");
     let owned = [(0, "x", 0b0111), (1, "y", 0b1111), (2, "z", 0b1011)];
     assert_owned(&rt, &cover, &owned);
     Ok(())
@@ -105,7 +121,7 @@ fn sixty_four_sites_are_a_cover(rt: HostRuntime) -> Result<(), Fail> {
         sites.push((name.as_str(), owned))?;
     }
     let cover = told(rt.alloc(), &TWO_NESTS, &sites)??;
-    assert_eq!(rt; cover.sites(), 64);
+    same(&rt, &cover.sites(), &64, "cover.sites()");
     let rows = [
         (0, "site0", 0b0011),
         (62, "site62", 0b0011),
@@ -151,11 +167,16 @@ fn lent_texts_are_read(rt: HostRuntime) -> Result<(), Fail> {
         owned: &["K", "K", "c"],
     };
     let cover = check_texts(rt.alloc(), &nest, &graph, &[first, second])?;
-    assert_eq!(rt; cover.sites(), 2);
+    same(&rt, &cover.sites(), &2, "cover.sites()");
     let rows = [(0, "X", 0b1011), (1, "Y", 0b1100)];
     assert_owned(&rt, &cover, &rows);
     let twice = check_texts(rt.alloc(), &nest, &graph, &[second, second]);
-    assert_eq!(rt; twice.err(), Some(CoverStop::SiteName { i: 1 }));
+    same(
+        &rt,
+        &twice.err(),
+        &Some(CoverStop::SiteName { i: 1 }),
+        "twice.err()",
+    );
     Ok(())
 }
 
@@ -177,7 +198,12 @@ fn stops_say_why(rt: HostRuntime) -> Result<(), Fail> {
         ),
         (CoverStop::NoMemory, "out of memory"),
     ] {
-        assert_eq!(rt; format!(in alloc; "{stop}")?.as_str(), wanted);
+        same_text(
+            &rt,
+            format!(in alloc; "{stop}")?.as_str(),
+            wanted,
+            "stops_say_why",
+        );
     }
     Ok(())
 }

@@ -11,3 +11,5 @@ mod cover;
 mod nest;
 #[cfg(test)]
 mod report;
+#[cfg(test)]
+mod same;

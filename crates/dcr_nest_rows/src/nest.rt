@@ -1,5 +1,6 @@
 // Worked rows: what the words on nests mean at known values, and that each call can succeed.
 use crate::build::{DEEP, TWO_NESTS, members, nest_of, nested, node};
+use crate::same::{same, same_text};
 use dcr_graph::{Graph, GraphStop, Kind};
 use dcr_nest::{Nested, Version, atoms_of};
 use dcr_set::{EventId, EventSet};
@@ -19,14 +20,24 @@ fn assert_atom(rt: &impl Abort, graph: &Graph, row: AtomRow) {
     let (number, name, label, conditions, waiting) = row;
     assert!(rt; number < graph.atoms());
     let e = EventId(number);
-    assert_eq!(rt; graph.name(e).text(), name);
-    assert_eq!(rt; graph.label(e).text(), label);
+    same_text(rt, graph.name(e).text(), name, "graph.name(e).text()");
+    same_text(rt, graph.label(e).text(), label, "graph.label(e).text()");
     let into = members(graph.sources(Kind::Condition, e));
-    assert_eq!(rt; into, conditions, "into {number}");
+    same(rt, &into, &conditions, "into");
     let from = members(graph.targets(Kind::Condition, e));
-    assert_eq!(rt; from, waiting, "from {number}");
-    assert_eq!(rt; members(graph.sources(Kind::Milestone, e)), 0);
-    assert_eq!(rt; members(graph.targets(Kind::Response, e)), 0);
+    same(rt, &from, &waiting, "from");
+    same(
+        rt,
+        &members(graph.sources(Kind::Milestone, e)),
+        &0,
+        "members(graph.sources(Kind::Milestone, e))",
+    );
+    same(
+        rt,
+        &members(graph.targets(Kind::Response, e)),
+        &0,
+        "members(graph.targets(Kind::Response, e))",
+    );
 }
 
 #[test]
@@ -38,7 +49,7 @@ fn nests(rt: HostRuntime) -> Result<(), Fail> {
         &[(Kind::Condition, 0, 3)],
     )?;
     let graph = nest.flatten(rt.alloc())?;
-    assert_eq!(rt; graph.atoms(), 4);
+    same(&rt, &graph.atoms(), &4, "graph.atoms()");
     let rows = [
         (0, "a", "first", 0, 0b1100),
         (1, "b", "", 0, 0b1100),
@@ -66,7 +77,12 @@ fn clash(rt: HostRuntime) -> Result<(), Fail> {
         a: EventId(1),
         b: EventId(2),
     };
-    assert_eq!(rt; nest.flatten(rt.alloc()).err(), Some(least));
+    same(
+        &rt,
+        &nest.flatten(rt.alloc()).err(),
+        &Some(least),
+        "nest.flatten(rt.alloc()).err()",
+    );
     Ok(())
 }
 
@@ -81,9 +97,9 @@ fn assert_node(
     below: u8,
 ) -> Result<(), Fail> {
     assert!(rt; usize::from(number) < nest.nodes().len());
-    assert_eq!(rt; nest.find(name), Some(number), "{name}");
-    assert_eq!(rt; nest.atom(number), atom, "{name}");
-    assert_eq!(rt; members(&nest.below(alloc, number)?), below, "{name}");
+    same(rt, &nest.find(name), &Some(number), name);
+    same(rt, &nest.atom(number), &atom, name);
+    same(rt, &members(&nest.below(alloc, number)?), &below, name);
     Ok(())
 }
 
@@ -101,8 +117,13 @@ fn nodes_are_found_and_numbered(rt: HostRuntime) -> Result<(), Fail> {
     for (number, name, atom, below) in rows {
         assert_node(&rt, rt.alloc(), &nest, number, name, atom, below)?;
     }
-    assert_eq!(rt; nest.find("first"), None);
-    assert_eq!(rt; nest.find(""), None);
+    same(
+        &rt,
+        &nest.find("first"),
+        &None,
+        "nodes_are_found_and_numbered",
+    );
+    same(&rt, &nest.find(""), &None, "nodes_are_found_and_numbered");
     Ok(())
 }
 
@@ -110,10 +131,10 @@ fn nodes_are_found_and_numbered(rt: HostRuntime) -> Result<(), Fail> {
 fn each_node_has_the_atoms_below_it(rt: HostRuntime) -> Result<(), Fail> {
     let nest = nest_of(rt.alloc(), Version::V2, &TWO_NESTS, &[])?;
     let all = nest.all_below(rt.alloc())?;
-    assert_eq!(rt; all.len(), 6);
+    same(&rt, &all.len(), &6, "all.len()");
     let wanted = [0b0011, 0b0001, 0b0010, 0b1100, 0b0100, 0b1000];
     for (below, wanted) in all.iter().zip(wanted) {
-        assert_eq!(rt; members(below), wanted);
+        same(&rt, &members(below), &wanted, "members(below)");
     }
     Ok(())
 }
@@ -122,9 +143,9 @@ fn each_node_has_the_atoms_below_it(rt: HostRuntime) -> Result<(), Fail> {
 fn atoms_are_named_in_order(rt: HostRuntime) -> Result<(), Fail> {
     let nest = nest_of(rt.alloc(), Version::V2, &TWO_NESTS, &[])?;
     let names = nest.atom_names(rt.alloc())?;
-    assert_eq!(rt; names.len(), 4);
+    same(&rt, &names.len(), &4, "names.len()");
     for (name, text) in names.iter().zip(["a", "b", "c", "d"]) {
-        assert_eq!(rt; name.text(), text);
+        same_text(&rt, name.text(), text, "name.text()");
     }
     Ok(())
 }
@@ -135,7 +156,7 @@ fn assert_targets(rt: &impl Abort, graph: &Graph, kind: Kind, targets: [u8; 4]) 
         let e = EventId(number as u16);
         assert!(rt; e.0 < graph.atoms());
         let found = members(graph.targets(kind, e));
-        assert_eq!(rt; found, wanted, "{kind:?} from {number}");
+        same(rt, &found, &wanted, "from");
     }
 }
 
@@ -152,12 +173,17 @@ fn relations_reach_what_is_far_below(rt: HostRuntime) -> Result<(), Fail> {
         (Kind::Response, 1, 2),
     ];
     let nest = nest_of(rt.alloc(), Version::V2, &DEEP, &relations)?;
-    assert_eq!(rt; nest.version(), Version::V2);
-    assert_eq!(rt; nest.relations().len(), 8);
+    same(&rt, &nest.version(), &Version::V2, "nest.version()");
+    same(&rt, &nest.relations().len(), &8, "nest.relations().len()");
     let atoms = atoms_of(rt.alloc(), nest.nodes())?;
-    assert_eq!(rt; atoms.as_slice(), [3, 4, 5, 6].as_slice());
+    same(
+        &rt,
+        &atoms.as_slice(),
+        &[3, 4, 5, 6].as_slice(),
+        "atoms.as_slice()",
+    );
     let graph = nest.flatten(rt.alloc())?;
-    assert_eq!(rt; graph.atoms(), 4);
+    same(&rt, &graph.atoms(), &4, "graph.atoms()");
     // The kind, and the targets of a, b, c and d.
     let rows = [
         (Kind::Condition, [0, 0, 0, 0b1111]),
@@ -201,7 +227,7 @@ fn the_largest_nests_are_flattened(rt: HostRuntime) -> Result<(), Fail> {
     }
     let nest = nested(rt.alloc(), Version::V2, nodes, relations)?;
     let graph = nest.flatten(rt.alloc())?;
-    assert_eq!(rt; graph.atoms(), 1024);
+    same(&rt, &graph.atoms(), &1024, "graph.atoms()");
     assert!(rt; 1023 < graph.atoms());
     for kind in kinds {
         let last = EventId(1023);

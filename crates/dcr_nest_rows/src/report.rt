@@ -8,6 +8,7 @@ ghost use Rattle.dcr_nest.specs.FlatRelation.{IsFlattening};
 ghost use Rattle.dcr_journal.specs.Run.{marks_at};
 
 use crate::build::{NodeRow, nest_of, sites_of};
+use crate::same::{same, same_bytes, same_text};
 use dcr_base::StdSink;
 use dcr_cover::check;
 use dcr_graph::{Graph, Kind, Marking, SiteMark};
@@ -174,14 +175,29 @@ fn the_last_lines_are_written_one_by_one(rt: HostRuntime) -> Result<(), Fail> {
     let case = hospital(rt.alloc())?;
     let line = nurse_line(rt.alloc(), &case)?;
     let nurse = "site nurse executed s,gm pending dt included -";
-    assert_eq!(rt; line.as_slice(), nurse.as_bytes());
+    same_bytes(&rt, line.as_slice(), nurse.as_bytes(), "line.as_slice()");
     let line = verdict_line(rt.alloc(), &case.graph, Some(3))?;
-    assert_eq!(rt; line.as_slice(), b"verdict waits dt".as_slice());
+    same_bytes(
+        &rt,
+        line.as_slice(),
+        b"verdict waits dt".as_slice(),
+        "line.as_slice()",
+    );
     let line = verdict_line(rt.alloc(), &case.graph, None)?;
-    assert_eq!(rt; line.as_slice(), b"verdict accepting".as_slice());
+    same_bytes(
+        &rt,
+        line.as_slice(),
+        b"verdict accepting".as_slice(),
+        "line.as_slice()",
+    );
     let mut line = Vec::new(rt.alloc());
     write_end(12, &mut line)?;
-    assert_eq!(rt; line.as_slice(), b"end 12".as_slice());
+    same_bytes(
+        &rt,
+        line.as_slice(),
+        b"end 12".as_slice(),
+        "line.as_slice()",
+    );
     Ok(())
 }
 
@@ -278,7 +294,12 @@ fn no_session(rt: HostRuntime) -> Result<(), Fail> {
     let alloc = rt.alloc();
     let case = set_up(alloc, Version::V1, &[("a", None, "a")], &[], &[("x", "a")])?;
     let report = report_of(alloc, &case)?;
-    assert_eq!(rt; report.as_slice(), NO_SESSION.as_bytes());
+    same_bytes(
+        &rt,
+        report.as_slice(),
+        NO_SESSION.as_bytes(),
+        "report.as_slice()",
+    );
     Ok(())
 }
 
@@ -332,9 +353,14 @@ fn a_full_sink_has_the_front(rt: HostRuntime) -> Result<(), Fail> {
         &mut sink,
     ) {
         Err(ReportStop::NoMemory) => return Err(ReportStop::NoMemory.into()),
-        stopped => assert_eq!(rt; stopped, Err(ReportStop::WriteFault)),
+        stopped => same(&rt, &stopped, &Err(ReportStop::WriteFault), "stopped"),
     }
-    assert_eq!(rt; room.as_slice(), b"dcr 1\ngraph {\"events".as_slice());
+    same_bytes(
+        &rt,
+        room.as_slice(),
+        b"dcr 1\ngraph {\"events".as_slice(),
+        "room.as_slice()",
+    );
     Ok(())
 }
 
@@ -345,7 +371,12 @@ fn stops_say_why(rt: HostRuntime) -> Result<(), Fail> {
         (ReportStop::WriteFault, "the output failed"),
         (ReportStop::NoMemory, "out of memory"),
     ] {
-        assert_eq!(rt; format!(in alloc; "{stop}")?.as_str(), want);
+        same_text(
+            &rt,
+            format!(in alloc; "{stop}")?.as_str(),
+            want,
+            "stops_say_why",
+        );
     }
     Ok(())
 }

@@ -1,4 +1,5 @@
 // Small graphs, worked out by hand: what each cause blocks, and what ends it.
+use crate::same::same_text;
 use crate::small::{Row, first_wrong};
 use std::test::Fail;
 
@@ -301,6 +302,6 @@ end 5
 #[test]
 fn each_cause_blocks_and_ends(rt: HostRuntime) -> Result<(), Fail> {
     let wrong = first_wrong(&rt, rt.alloc(), &ROWS)?;
-    assert_eq!(rt; wrong.as_str(), "");
+    same_text(&rt, wrong.as_str(), "", "wrong.as_str()");
     Ok(())
 }

@@ -1,4 +1,5 @@
 // Small graphs, worked out by hand: what an execution does, and which sites see it.
+use crate::same::same_text;
 use crate::small::{Row, first_wrong};
 use std::test::Fail;
 
@@ -311,6 +312,6 @@ end 8
 #[test]
 fn each_execution_has_its_effects(rt: HostRuntime) -> Result<(), Fail> {
     let wrong = first_wrong(&rt, rt.alloc(), &ROWS)?;
-    assert_eq!(rt; wrong.as_str(), "");
+    same_text(&rt, wrong.as_str(), "", "wrong.as_str()");
     Ok(())
 }

@@ -1,4 +1,5 @@
 // What is wrong at the far end of a file or a report: in the last of many pieces, or in one that is very long.
+use crate::same::{same, same_bytes, same_text};
 use crate::whole::answer;
 use dcr_app::Status;
 use std::alloc::Global;
@@ -302,7 +303,12 @@ fn the_last_event_is_refused(rt: HostRuntime) -> Result<(), Fail> {
             line,
             ..MOST
         }];
-        assert_eq!(rt; first_wrong(&rt, rt.alloc(), &rows)?.as_str(), "");
+        same_text(
+            &rt,
+            first_wrong(&rt, rt.alloc(), &rows)?.as_str(),
+            "",
+            "first_wrong(&rt, rt.alloc(), &rows)?.as_str()",
+        );
     }
     Ok(())
 }
@@ -315,20 +321,35 @@ fn the_last_relation_is_refused(rt: HostRuntime) -> Result<(), Fail> {
             line,
             ..MOST
         }];
-        assert_eq!(rt; first_wrong(&rt, rt.alloc(), &rows)?.as_str(), "");
+        same_text(
+            &rt,
+            first_wrong(&rt, rt.alloc(), &rows)?.as_str(),
+            "",
+            "first_wrong(&rt, rt.alloc(), &rows)?.as_str()",
+        );
     }
     Ok(())
 }
 
 #[test]
 fn the_last_site_is_refused(rt: HostRuntime) -> Result<(), Fail> {
-    assert_eq!(rt; first_wrong(&rt, rt.alloc(), &COVERS)?.as_str(), "");
+    same_text(
+        &rt,
+        first_wrong(&rt, rt.alloc(), &COVERS)?.as_str(),
+        "",
+        "first_wrong(&rt, rt.alloc(), &COVERS)?.as_str()",
+    );
     Ok(())
 }
 
 #[test]
 fn the_last_call_is_refused(rt: HostRuntime) -> Result<(), Fail> {
-    assert_eq!(rt; first_wrong(&rt, rt.alloc(), &CALLS)?.as_str(), "");
+    same_text(
+        &rt,
+        first_wrong(&rt, rt.alloc(), &CALLS)?.as_str(),
+        "",
+        "first_wrong(&rt, rt.alloc(), &CALLS)?.as_str()",
+    );
     Ok(())
 }
 
@@ -354,9 +375,9 @@ fn a_text_above_its_limit_is_told(rt: HostRuntime) -> Result<(), Fail> {
         bytes.extend_from_slice(&long)?;
         bytes.push(b'\n')?;
         let (status, written) = answer(&rt, rt.alloc(), &["replay"], &bytes)?;
-        assert_eq!(rt; status, Status::Invalid, "{told}");
+        same(&rt, &status, &Status::Invalid, told);
         let want = format!(in rt.alloc(); "invalid {told}\n")?;
-        assert_eq!(rt; written.as_slice(), want.as_bytes(), "{told}");
+        same_bytes(&rt, written.as_slice(), want.as_bytes(), told);
     }
     Ok(())
 }
@@ -379,9 +400,9 @@ fn the_last_entry_of_many_is_told(rt: HostRuntime) -> Result<(), Fail> {
         let ends = "site x executed - pending a included a\nverdict waits a\nend 200000\n";
         let text = format!(in rt.alloc(); "{entries}{last}{ends}")?;
         let (status, written) = answer(&rt, rt.alloc(), &["replay"], text.as_bytes())?;
-        assert_eq!(rt; status, Status::Invalid, "{told}");
+        same(&rt, &status, &Status::Invalid, told);
         let want = format!(in rt.alloc(); "invalid {told}\n")?;
-        assert_eq!(rt; written.as_slice(), want.as_bytes(), "{told}");
+        same_bytes(&rt, written.as_slice(), want.as_bytes(), told);
     }
     Ok(())
 }

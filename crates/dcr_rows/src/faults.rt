@@ -1,4 +1,5 @@
 // One fault at each place: of the source, and of the sink.
+use crate::same::{same, same_bytes};
 use crate::whole::{empty_disk, hospital, no_door, words_of};
 use dcr_app::{Status, dcr};
 use dcr_base::OpenGate;
@@ -54,12 +55,12 @@ fn each_read_that_fails_is_told(rt: HostRuntime) -> Result<(), Fail> {
     for (word, input, spared, whole) in rows() {
         for place in 1..spared {
             let (status, written) = ended(&rt, rt.alloc(), word, input, place, 4096)?;
-            assert_eq!(rt; status, Status::ReadFault, "{word} at read {place}");
+            same(&rt, &status, &Status::ReadFault, "at read");
             assert!(rt; written.is_empty(), "{word} at read {place}");
         }
         let (status, written) = ended(&rt, rt.alloc(), word, input, spared, 4096)?;
-        assert_eq!(rt; status, Status::Done, "{word}");
-        assert_eq!(rt; written.as_slice(), whole.as_bytes(), "{word}");
+        same(&rt, &status, &Status::Done, word);
+        same_bytes(&rt, written.as_slice(), whole.as_bytes(), word);
     }
     Ok(())
 }
@@ -70,16 +71,12 @@ fn each_write_that_fails_is_told(rt: HostRuntime) -> Result<(), Fail> {
         let whole = whole.as_bytes();
         for room in 0..whole.len() {
             let (status, written) = ended(&rt, rt.alloc(), word, input, 0, room)?;
-            assert_eq!(rt; status, Status::WriteFault, "{word} with room for {room}");
-            assert_eq!(rt;
-                written.as_slice(),
-                &whole[..room],
-                "{word} with room for {room}"
-            );
+            same(&rt, &status, &Status::WriteFault, "with room for");
+            same_bytes(&rt, written.as_slice(), &whole[..room], "with room for");
         }
         let (status, written) = ended(&rt, rt.alloc(), word, input, 0, whole.len())?;
-        assert_eq!(rt; status, Status::Done, "{word}");
-        assert_eq!(rt; written.as_slice(), whole, "{word}");
+        same(&rt, &status, &Status::Done, word);
+        same_bytes(&rt, written.as_slice(), whole, word);
     }
     Ok(())
 }

@@ -1,4 +1,5 @@
 // Files that are sent to do harm: cut, nested too deep, or of bytes that are no text.
+use crate::same::{same, same_bytes};
 use crate::whole::{answer, hospital};
 use dcr_app::Status;
 use std::alloc::{AllocError, Global};
@@ -14,17 +15,17 @@ fn no_proper_front_of_a_case_is_json(rt: HostRuntime) -> Result<(), Fail> {
     let mut front = Vec::new(alloc);
     for byte in file.as_bytes() {
         let (status, written) = answer(&rt, alloc, &["run"], &front)?;
-        assert_eq!(rt; status, Status::Refused, "{} bytes", front.len());
-        assert_eq!(rt;
-            str::from_utf8(&written)?,
-            "refused 2 not-json\n",
-            "{} bytes",
-            front.len()
+        same(&rt, &status, &Status::Refused, "bytes");
+        same(
+            &rt,
+            &str::from_utf8(&written)?,
+            &"refused 2 not-json\n",
+            "bytes",
         );
         front.push(*byte)?;
     }
     // These were all the fronts.
-    assert_eq!(rt; front.as_slice(), file.as_bytes());
+    same_bytes(&rt, front.as_slice(), file.as_bytes(), "front.as_slice()");
     Ok(())
 }
 
@@ -37,8 +38,8 @@ fn assert_refused<R: Threads + Wait + Sync + Abort>(
     why: &str,
 ) -> Result<(), Fail> {
     let (status, written) = answer(rt, alloc, &["run"], file)?;
-    assert_eq!(rt; status, Status::Refused, "{why}");
-    assert_eq!(rt; str::from_utf8(&written)?, line, "{why}");
+    same(rt, &status, &Status::Refused, why);
+    same(rt, &str::from_utf8(&written)?, &line, why);
     Ok(())
 }
 
@@ -115,9 +116,9 @@ fn a_file_is_nested_127_deep_at_most(rt: HostRuntime) -> Result<(), Fail> {
             "{{\"graph\":{{\"events\":[{{\"name\":\"a\"}}]}},\"cover\":[{{\"site\":\"x\",\"events\":[\"a\"]}}],\"note\":{note}}}"
         )?;
         let (status, written) = answer(&rt, alloc, &["run"], file.as_bytes())?;
-        assert_eq!(rt; status, answered, "{arrays} arrays");
+        same(&rt, &status, &answered, "arrays");
         let refused = written.as_slice() == b"refused 2 not-json\n".as_slice();
-        assert_eq!(rt; refused, answered == Status::Refused, "{arrays} arrays");
+        same(&rt, &refused, &(answered == Status::Refused), "arrays");
     }
     for (arrays, line) in [
         (127, "refused 3 shape top 0\n"),

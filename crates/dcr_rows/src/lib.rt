@@ -20,6 +20,8 @@ mod refusals;
 #[cfg(test)]
 mod replays;
 #[cfg(test)]
+mod same;
+#[cfg(test)]
 mod small;
 #[cfg(test)]
 mod whole;

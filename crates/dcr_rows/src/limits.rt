@@ -1,4 +1,5 @@
 // Each limit at its edge.
+use crate::same::{same, same_bytes};
 use crate::whole::answer;
 use dcr_app::Status;
 use std::alloc::Global;
@@ -81,11 +82,11 @@ fn limits_are_exact(rt: HostRuntime) -> Result<(), Fail> {
         let (status, written) = answer(&rt, rt.alloc(), &["run"], text.as_bytes())?;
         if refused.is_empty() {
             let end = format!(in rt.alloc(); "\nend {calls}\n")?;
-            assert_eq!(rt; status, Status::Done, "{row}");
+            same(&rt, &status, &Status::Done, row);
             assert!(rt; written.as_slice().ends_with(end.as_bytes()), "{row}");
         } else {
-            assert_eq!(rt; status, Status::Refused, "{row}");
-            assert_eq!(rt; written.as_slice(), refused.as_bytes(), "{row}");
+            same(&rt, &status, &Status::Refused, row);
+            same_bytes(&rt, written.as_slice(), refused.as_bytes(), row);
         }
     }
     Ok(())
@@ -102,7 +103,7 @@ fn names_have_at_most_64_bytes(rt: HostRuntime) -> Result<(), Fail> {
             "{{\"graph\":{{\"events\":[{{\"name\":\"{name}\"}}]}},\"cover\":[{{\"site\":\"x\",\"events\":[\"{name}\"]}}]}}"
         )?;
         let (status, _) = answer(&rt, rt.alloc(), &["run"], text.as_bytes())?;
-        assert_eq!(rt; status == Status::Done, is_within, "{length} bytes");
+        same(&rt, &(status == Status::Done), &is_within, "bytes");
     }
     Ok(())
 }
@@ -116,11 +117,16 @@ fn files_have_at_most_16_mib(rt: HostRuntime) -> Result<(), Fail> {
         bytes.push(b' ')?;
     }
     let (status, _) = answer(&rt, rt.alloc(), &["run"], &bytes)?;
-    assert_eq!(rt; status, Status::Done);
+    same(&rt, &status, &Status::Done, "status");
     bytes.push(b' ')?;
     let (status, written) = answer(&rt, rt.alloc(), &["run"], &bytes)?;
-    assert_eq!(rt; status, Status::Refused);
-    assert_eq!(rt; written.as_slice(), "refused 1 too-long\n".as_bytes());
+    same(&rt, &status, &Status::Refused, "status");
+    same_bytes(
+        &rt,
+        written.as_slice(),
+        "refused 1 too-long\n".as_bytes(),
+        "written.as_slice()",
+    );
     Ok(())
 }
 
@@ -128,11 +134,21 @@ fn files_have_at_most_16_mib(rt: HostRuntime) -> Result<(), Fail> {
 fn reports_have_at_most_256_mib(rt: HostRuntime) -> Result<(), Fail> {
     let mut bytes = vec![in rt.alloc(); b' '; 268_435_456]?;
     let (status, written) = answer(&rt, rt.alloc(), &["replay"], &bytes)?;
-    assert_eq!(rt; status, Status::Invalid);
-    assert_eq!(rt; written.as_slice(), "invalid 1 head\n".as_bytes());
+    same(&rt, &status, &Status::Invalid, "status");
+    same_bytes(
+        &rt,
+        written.as_slice(),
+        "invalid 1 head\n".as_bytes(),
+        "written.as_slice()",
+    );
     bytes.push(b' ')?;
     let (status, written) = answer(&rt, rt.alloc(), &["replay"], &bytes)?;
-    assert_eq!(rt; status, Status::Refused);
-    assert_eq!(rt; written.as_slice(), "refused 1 too-long\n".as_bytes());
+    same(&rt, &status, &Status::Refused, "status");
+    same_bytes(
+        &rt,
+        written.as_slice(),
+        "refused 1 too-long\n".as_bytes(),
+        "written.as_slice()",
+    );
     Ok(())
 }

@@ -1,4 +1,5 @@
 // The cases of numbers: row load. The lines are those of a second implementation (bench/load.py).
+use crate::same::{same, same_bytes};
 use crate::whole::answer;
 use dcr_app::Status;
 use std::test::Fail;
@@ -29,8 +30,13 @@ fn a_number_is_answered_by_the_line_of_its_case(rt: HostRuntime) -> Result<(), F
     ] {
         let words = ["load", number];
         let (status, written) = answer(&rt, rt.alloc(), &words, b"never read")?;
-        assert_eq!(rt; status, Status::Done, "{number}");
-        assert_eq!(rt; written.as_slice(), line.as_bytes(), "{number}");
+        same(&rt, &status, &Status::Done, "status");
+        same_bytes(
+            &rt,
+            written.as_slice(),
+            line.as_bytes(),
+            "written.as_slice()",
+        );
     }
     Ok(())
 }

@@ -1,4 +1,5 @@
 // Files that are refused, and the one line that each gets.
+use crate::same::{same, same_bytes};
 use crate::whole::answer;
 use dcr_app::Status;
 use std::test::Fail;
@@ -153,9 +154,9 @@ const ROWS: [(&str, &str); 41] = [
 fn each_wrong_file_gets_its_line(rt: HostRuntime) -> Result<(), Fail> {
     for (file, line) in &ROWS {
         let (status, written) = answer(&rt, rt.alloc(), &["run"], file.as_bytes())?;
-        assert_eq!(rt; status, Status::Refused, "{file}");
+        same(&rt, &status, &Status::Refused, file);
         let want = format!(in rt.alloc(); "{line}\n")?;
-        assert_eq!(rt; written.as_slice(), want.as_bytes(), "{file}");
+        same_bytes(&rt, written.as_slice(), want.as_bytes(), file);
     }
     Ok(())
 }
@@ -163,7 +164,12 @@ fn each_wrong_file_gets_its_line(rt: HostRuntime) -> Result<(), Fail> {
 #[test]
 fn bytes_that_are_no_text_are_refused(rt: HostRuntime) -> Result<(), Fail> {
     let (status, written) = answer(&rt, rt.alloc(), &["run"], b"\"\xff\"")?;
-    assert_eq!(rt; status, Status::Refused);
-    assert_eq!(rt; written.as_slice(), "refused 2 not-json\n".as_bytes());
+    same(&rt, &status, &Status::Refused, "status");
+    same_bytes(
+        &rt,
+        written.as_slice(),
+        "refused 2 not-json\n".as_bytes(),
+        "written.as_slice()",
+    );
     Ok(())
 }

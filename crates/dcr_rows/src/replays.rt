@@ -1,4 +1,5 @@
 // Reports that are replayed, and texts that are almost reports.
+use crate::same::{same, same_bytes, same_text};
 use crate::whole::{ROWS, answer, hospital};
 use dcr_app::Status;
 use std::alloc::Global;
@@ -119,9 +120,9 @@ fn each_report_is_valid(rt: HostRuntime) -> Result<(), Fail> {
     for row in ROWS.iter().chain([hospital()]) {
         let (_, count) = row.report.split_once("\nend ").unwrap_or(("", ""));
         let (status, written) = answer(&rt, rt.alloc(), &["replay"], row.report.as_bytes())?;
-        assert_eq!(rt; status, Status::Done, "{}", row.name);
+        same(&rt, &status, &Status::Done, row.name);
         let want = format!(in rt.alloc(); "valid {count}")?;
-        assert_eq!(rt; written.as_slice(), want.as_bytes(), "{}", row.name);
+        same_bytes(&rt, written.as_slice(), want.as_bytes(), row.name);
     }
     Ok(())
 }
@@ -136,9 +137,9 @@ fn each_wrong_line_is_told(rt: HostRuntime) -> Result<(), Fail> {
         );
         let text = format!(in rt.alloc(); "{front}{new}{rest}")?;
         let (status, written) = answer(&rt, rt.alloc(), &["replay"], text.as_bytes())?;
-        assert_eq!(rt; status, Status::Invalid, "{old} by {new}");
+        same(&rt, &status, &Status::Invalid, "by");
         let want = format!(in rt.alloc(); "invalid {told}\n")?;
-        assert_eq!(rt; written.as_slice(), want.as_bytes(), "{old} by {new}");
+        same_bytes(&rt, written.as_slice(), want.as_bytes(), "by");
     }
     Ok(())
 }
@@ -146,8 +147,13 @@ fn each_wrong_line_is_told(rt: HostRuntime) -> Result<(), Fail> {
 #[test]
 fn no_text_has_no_head(rt: HostRuntime) -> Result<(), Fail> {
     let (status, written) = answer(&rt, rt.alloc(), &["replay"], b"")?;
-    assert_eq!(rt; status, Status::Invalid);
-    assert_eq!(rt; written.as_slice(), "invalid 1 head\n".as_bytes());
+    same(&rt, &status, &Status::Invalid, "status");
+    same_bytes(
+        &rt,
+        written.as_slice(),
+        "invalid 1 head\n".as_bytes(),
+        "written.as_slice()",
+    );
     Ok(())
 }
 
@@ -159,12 +165,12 @@ fn a_graph_is_of_its_version(rt: HostRuntime) -> Result<(), Fail> {
         if let Some((_, rest)) = row.report.split_once("dcr 2\n") {
             let text = format!(in rt.alloc(); "dcr 1\n{rest}")?;
             let (status, written) = answer(&rt, rt.alloc(), &["replay"], text.as_bytes())?;
-            assert_eq!(rt; status, Status::Invalid, "{}", row.name);
-            assert_eq!(rt;
+            same(&rt, &status, &Status::Invalid, row.name);
+            same_bytes(
+                &rt,
                 written.as_slice(),
                 "invalid 2 graph\n".as_bytes(),
-                "{}",
-                row.name
+                row.name,
             );
             tried = true;
         }
@@ -188,14 +194,9 @@ fn assert_wrong<R: Threads + Wait + Sync + Abort>(
     kind: &str,
 ) -> Result<(), Fail> {
     let (status, written) = answer(rt, alloc, &["replay"], text)?;
-    assert_eq!(rt; status, Status::Invalid, "{} bytes", text.len());
+    same(rt, &status, &Status::Invalid, "bytes");
     let want = format!(in alloc; "invalid {line} {kind}\n")?;
-    assert_eq!(rt;
-        str::from_utf8(&written)?,
-        want.as_str(),
-        "{} bytes",
-        text.len()
-    );
+    same_text(rt, str::from_utf8(&written)?, want.as_str(), "bytes");
     Ok(())
 }
 
@@ -214,6 +215,6 @@ fn each_proper_front_of_a_report_is_told(rt: HostRuntime) -> Result<(), Fail> {
         }
         front.push(b'\n')?;
     }
-    assert_eq!(rt; front.as_slice(), report.as_bytes());
+    same_bytes(&rt, front.as_slice(), report.as_bytes(), "front.as_slice()");
     Ok(())
 }

@@ -1,4 +1,5 @@
 // Whole cases and their whole reports.
+use crate::same::{same, same_bytes};
 use dcr_app::{Status, dcr};
 use dcr_base::{Gate, OpenGate, StdSink, StdSource};
 use dcr_fakes::{MemDisk, MemDoor};
@@ -340,8 +341,8 @@ pub(crate) fn answer_at<G: Gate + Drop + Sync, R: Threads + Wait + Sync>(
 fn each_row_gives_its_report(rt: HostRuntime) -> Result<(), Fail> {
     for row in ROWS.iter().chain([&HOSPITAL]) {
         let (status, written) = answer(&rt, rt.alloc(), &["run"], row.file.as_bytes())?;
-        assert_eq!(rt; status, Status::Done, "{}", row.name);
-        assert_eq!(rt; written.as_slice(), row.report.as_bytes(), "{}", row.name);
+        same(&rt, &status, &Status::Done, row.name);
+        same_bytes(&rt, written.as_slice(), row.report.as_bytes(), row.name);
     }
     Ok(())
 }
@@ -351,10 +352,10 @@ fn want_of_memory_leaves_a_front_of_the_report(rt: HostRuntime) -> Result<(), Fa
     let report = ROWS[0].report.as_bytes();
     let (status, written) = answer(&rt, rt.alloc(), &["run"], ROWS[0].file.as_bytes())?;
     if status == Status::Done {
-        assert_eq!(rt; written.as_slice(), report);
+        same_bytes(&rt, written.as_slice(), report, "written.as_slice()");
     } else {
         // Where an allocation was made to fail.
-        assert_eq!(rt; status, Status::NoMemory);
+        same(&rt, &status, &Status::NoMemory, "status");
         assert!(rt; report.starts_with(&written));
     }
     Ok(())

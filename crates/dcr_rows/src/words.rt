@@ -1,4 +1,5 @@
 // The words of the command line: row words, and what is spelled.
+use crate::same::{same, same_bytes};
 use crate::whole::{answer, hospital};
 use dcr_app::Status;
 use std::test::Fail;
@@ -35,8 +36,13 @@ fn other_words_are_answered_by_usage(rt: HostRuntime) -> Result<(), Fail> {
         &["serve"],
     ] {
         let (status, written) = answer(&rt, rt.alloc(), words, hospital().file.as_bytes())?;
-        assert_eq!(rt; status, Status::Usage);
-        assert_eq!(rt; written.as_slice(), "usage\n".as_bytes());
+        same(&rt, &status, &Status::Usage, "status");
+        same_bytes(
+            &rt,
+            written.as_slice(),
+            "usage\n".as_bytes(),
+            "written.as_slice()",
+        );
     }
     Ok(())
 }
@@ -46,11 +52,12 @@ fn one_to_sixty_four_workers_are_spelled(rt: HostRuntime) -> Result<(), Fail> {
     for number in ["1", "2", "9", "10", "59", "63", "64"] {
         let words = ["run", "--workers", number];
         let (status, written) = answer(&rt, rt.alloc(), &words, hospital().file.as_bytes())?;
-        assert_eq!(rt; status, Status::Done, "{number} workers");
-        assert_eq!(rt;
+        same(&rt, &status, &Status::Done, "workers");
+        same_bytes(
+            &rt,
             written.as_slice(),
             hospital().report.as_bytes(),
-            "{number} workers"
+            "workers",
         );
     }
     Ok(())

@@ -1,4 +1,5 @@
 // Several workers: row gate, the second half of row self-exclude, and a case over several sites.
+use crate::same::{same, same_bytes};
 use crate::whole::{answer, answer_at};
 use dcr_app::Status;
 use dcr_base::Gate;
@@ -204,8 +205,13 @@ fn one_worker_makes_the_sessions_one_after_the_other(rt: HostRuntime) -> Result<
     for case in [&APART, &ONCE] {
         let words = ["run", "--workers", "1"];
         let (status, written) = answer(&rt, rt.alloc(), &words, case.file.as_bytes())?;
-        assert_eq!(rt; status, Status::Done);
-        assert_eq!(rt; written.as_slice(), case.reports[0].as_bytes());
+        same(&rt, &status, &Status::Done, "status");
+        same(
+            &rt,
+            &written.as_slice(),
+            &case.reports[0].as_bytes(),
+            "written.as_slice()",
+        );
     }
     Ok(())
 }
@@ -227,14 +233,10 @@ fn a_report_of_several_workers_is_valid(rt: HostRuntime) -> Result<(), Fail> {
     for workers in ["2", "3", "4", "10", "64"] {
         let words = ["run", "--workers", workers];
         let (status, report) = answer(&rt, rt.alloc(), &words, MANY.as_bytes())?;
-        assert_eq!(rt; status, Status::Done, "{workers} workers");
+        same(&rt, &status, &Status::Done, "workers");
         let (status, line) = answer(&rt, rt.alloc(), &["replay"], &report)?;
-        assert_eq!(rt; status, Status::Done, "{workers} workers");
-        assert_eq!(rt;
-            line.as_slice(),
-            "valid 24\n".as_bytes(),
-            "{workers} workers"
-        );
+        same(&rt, &status, &Status::Done, "workers");
+        same_bytes(&rt, line.as_slice(), "valid 24\n".as_bytes(), "workers");
     }
     Ok(())
 }

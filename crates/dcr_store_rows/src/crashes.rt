@@ -1,4 +1,5 @@
 // The case is stopped within each call of the disk, and opened again.
+use crate::same::same;
 use crate::support::{CALLS, count_on, disk_of, run_on};
 use dcr_app::Status;
 use std::test::Fail;
@@ -13,7 +14,7 @@ const CHOICES: [u64; 3] = [
 #[test]
 fn a_crash_leaves_what_was_answered_and_at_most_one_more(rt: HostRuntime) -> Result<(), Fail> {
     let ran = run_on(&rt, rt.alloc(), CALLS, disk_of(rt.alloc(), &[], &[])?)?;
-    assert_eq!(rt; ran.status, Status::Done);
+    same(&rt, &ran.status, &Status::Done, "ran.status");
     // Calls 1 to 4 make the tape; then four calls for each execution.
     for done in 0..5 {
         for call in 1..=4 {
@@ -29,7 +30,7 @@ fn a_crash_leaves_what_was_answered_and_at_most_one_more(rt: HostRuntime) -> Res
         }
     }
     let count = count_on(&rt, rt.alloc(), &ran.disk.image(rt.alloc(), 25, 0)?)?;
-    assert_eq!(rt; count, 5);
+    same(&rt, &count, &5, "count");
     Ok(())
 }
 
@@ -52,22 +53,14 @@ fn after_the_third_execution_three_are_left(rt: HostRuntime) -> Result<(), Fail>
         // The first two calls of the third append and, behind its last one, the first of the fourth.
         for (call, kept) in [(13, 2), (14, 2), (17, 3)] {
             let image = ran.disk.image(rt.alloc(), call, choice)?;
-            assert_eq!(rt;
-                count_on(&rt, rt.alloc(), &image)?,
-                kept,
-                "call {call}, {choice:x}"
-            );
+            same(&rt, &count_on(&rt, rt.alloc(), &image)?, &kept, "call");
         }
         // The other two: by the gate.
         for call in [15, 16] {
             let image = ran.disk.image(rt.alloc(), call, choice)?;
             let open = image.len() > 88 && image[88] == 1;
             let kept = if open { 3 } else { 2 };
-            assert_eq!(rt;
-                count_on(&rt, rt.alloc(), &image)?,
-                kept,
-                "call {call}, {choice:x}"
-            );
+            same(&rt, &count_on(&rt, rt.alloc(), &image)?, &kept, "call");
         }
     }
     Ok(())

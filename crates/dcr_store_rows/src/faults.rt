@@ -1,4 +1,5 @@
 // Rows disk fault and first disk call: each call of the disk fails in turn.
+use crate::same::same;
 use crate::support::{CALLS, count_on, disk_of, entries_on, is_report, run_on};
 use dcr_app::Status;
 use dcr_tape::TapeEntry;
@@ -65,9 +66,14 @@ end 8
 fn a_fault_before_the_first_call_writes_nothing(rt: HostRuntime) -> Result<(), Fail> {
     for call in 1..=4 {
         let ran = run_on(&rt, rt.alloc(), CALLS, disk_of(rt.alloc(), &[], &[call])?)?;
-        assert_eq!(rt; ran.status, Status::DiskFault, "call {call}");
+        same(&rt, &ran.status, &Status::DiskFault, "call");
         assert!(rt; ran.written.is_empty() && !ran.told, "call {call}");
-        assert_eq!(rt; ran.disk.calls().len(), call as usize);
+        same(
+            &rt,
+            &ran.disk.calls().len(),
+            &(call as usize),
+            "ran.disk.calls().len()",
+        );
     }
     Ok(())
 }
@@ -78,15 +84,20 @@ fn a_fault_of_an_append_ends_the_run(rt: HostRuntime) -> Result<(), Fail> {
         for call in 1..=4 {
             let number = 4 * done + 4 + call;
             let ran = run_on(&rt, rt.alloc(), CALLS, disk_of(rt.alloc(), &[], &[number])?)?;
-            assert_eq!(rt; ran.status, Status::DiskFault, "call {number}");
+            same(&rt, &ran.status, &Status::DiskFault, "call");
             let whole = is_report(rt.alloc(), &ran.written, FAULTED[done as usize])?;
             assert!(rt; ran.told && whole, "call {number}");
             // Nothing is asked of the disk behind the fault.
-            assert_eq!(rt; ran.disk.calls().len(), number as usize);
+            same(
+                &rt,
+                &ran.disk.calls().len(),
+                &(number as usize),
+                "ran.disk.calls().len()",
+            );
             // The gate is written by the third call of an append, and is there whether it is durable or not.
             let count = count_on(&rt, rt.alloc(), ran.disk.bytes())?;
             let kept = if call == 4 { done + 1 } else { done };
-            assert_eq!(rt; count, kept as usize, "call {number}");
+            same(&rt, &count, &(kept as usize), "call");
         }
     }
     Ok(())
@@ -95,15 +106,15 @@ fn a_fault_of_an_append_ends_the_run(rt: HostRuntime) -> Result<(), Fail> {
 #[test]
 fn a_fault_behind_the_last_call_never_comes(rt: HostRuntime) -> Result<(), Fail> {
     let ran = run_on(&rt, rt.alloc(), CALLS, disk_of(rt.alloc(), &[], &[25])?)?;
-    assert_eq!(rt; ran.status, Status::Done);
-    assert_eq!(rt; ran.disk.calls().len(), 24);
+    same(&rt, &ran.status, &Status::Done, "ran.status");
+    same(&rt, &ran.disk.calls().len(), &24, "ran.disk.calls().len()");
     Ok(())
 }
 
 #[test]
 fn row_disk_fault(rt: HostRuntime) -> Result<(), Fail> {
     let ran = run_on(&rt, rt.alloc(), CALLS, disk_of(rt.alloc(), &[], &[9])?)?;
-    assert_eq!(rt; ran.status, Status::DiskFault);
+    same(&rt, &ran.status, &Status::DiskFault, "ran.status");
     assert!(rt; ran.told && is_report(rt.alloc(), &ran.written, FAULTED[1])?);
     let entries = entries_on(rt.alloc(), ran.disk.bytes())?;
     assert!(rt; entries.as_slice() == [TapeEntry { event: 0, site: 0 }].as_slice());

@@ -12,4 +12,6 @@ mod renewing;
 #[cfg(test)]
 mod runs;
 #[cfg(test)]
+mod same;
+#[cfg(test)]
 mod support;

@@ -1,4 +1,5 @@
 // Row tape refusals, and refused cases.
+use crate::same::{same, same_bytes};
 use crate::support::{CALLS, Ran, disk_of, new_tape, run_file, run_on};
 use dcr_app::Status;
 use std::process::Abort;
@@ -19,8 +20,13 @@ const NOISE: [u8; 96] = [
 
 // That the disk was refused by this line, and has the bytes that it had.
 fn assert_refused(rt: &impl Abort, ran: &Ran, line: &str, bytes: &[u8]) {
-    assert_eq!(rt; ran.status, Status::TapeRefused, "{line}");
-    assert_eq!(rt; ran.written.as_slice(), line.as_bytes());
+    same(rt, &ran.status, &Status::TapeRefused, line);
+    same_bytes(
+        rt,
+        ran.written.as_slice(),
+        line.as_bytes(),
+        "ran.written.as_slice()",
+    );
     assert!(rt; !ran.told && ran.disk.bytes() == bytes, "{line}");
 }
 
@@ -57,7 +63,7 @@ fn bytes_that_are_no_tape_are_left_alone(rt: HostRuntime) -> Result<(), Fail> {
     ];
     for (bytes, why) in rows {
         let ran = run_on(&rt, alloc, CALLS, disk_of(alloc, bytes, &[])?)?;
-        assert_eq!(rt; ran.status, Status::TapeRefused, "{why}");
+        same(&rt, &ran.status, &Status::TapeRefused, why);
         assert_refused(&rt, &ran, "tape not-tape\n", bytes);
     }
     Ok(())
@@ -104,8 +110,13 @@ fn a_refused_case_reaches_no_disk(rt: HostRuntime) -> Result<(), Fail> {
         ("{}", "refused 3 shape graph 0\n"),
     ] {
         let ran = run_file(&rt, rt.alloc(), file, disk_of(rt.alloc(), &[0; 10], &[1])?)?;
-        assert_eq!(rt; ran.status, Status::Refused);
-        assert_eq!(rt; ran.written.as_slice(), line.as_bytes());
+        same(&rt, &ran.status, &Status::Refused, "ran.status");
+        same_bytes(
+            &rt,
+            ran.written.as_slice(),
+            line.as_bytes(),
+            "ran.written.as_slice()",
+        );
         assert!(rt; !ran.told && ran.disk.calls().is_empty());
     }
     Ok(())

@@ -1,4 +1,5 @@
 // Row renewed tape.
+use crate::same::{same, same_bytes};
 use crate::support::{count_on, disk_of, is_report, new_tape, old_tape, run_on};
 use dcr_app::Status;
 use std::alloc::{AllocError, Global};
@@ -35,24 +36,20 @@ fn row_renewed_tape(rt: HostRuntime) -> Result<(), Fail> {
         r#""exec nurse dt""#,
         disk_of(alloc, &old_tape(alloc)?, &[])?,
     )?;
-    assert_eq!(rt; ran.status, Status::Done);
+    same(&rt, &ran.status, &Status::Done, "ran.status");
     assert!(rt; is_report(alloc, &ran.written, REPORT)?);
     let bytes = ran.disk.bytes();
     assert_eq!(rt; bytes.len(), 242);
-    assert_eq!(rt; bytes[40], 1);
+    same(&rt, &bytes[40], &1, "bytes[40]");
     assert!(rt; bytes[41..49] == [0, 0, 0, 0, 0, 0, 0, 0x69][..]);
-    assert_eq!(rt; bytes, renewed_tape(alloc)?.as_slice());
+    same_bytes(&rt, bytes, renewed_tape(alloc)?.as_slice(), "bytes");
     // The last four calls are those of the append; the five before them are those of the renewal.
     let calls = ran.disk.calls().len();
     assert!(rt; calls >= 9 && calls <= 100);
     for call in calls - 8..=calls - 4 {
         for choice in [0x5555_5555, 0xAAAA_AAAA, 0xFFFF_FFFF] {
             let image = ran.disk.image(alloc, call as u32, choice)?;
-            assert_eq!(rt;
-                count_on(&rt, rt.alloc(), &image)?,
-                5,
-                "call {call}, {choice:x}"
-            );
+            same(&rt, &count_on(&rt, rt.alloc(), &image)?, &5, "call");
         }
     }
     Ok(())
@@ -72,12 +69,13 @@ fn a_fault_of_the_renewal_writes_nothing(rt: HostRuntime) -> Result<(), Fail> {
             r#""exec nurse dt""#,
             disk_of(alloc, &tape, &[call as u32])?,
         )?;
-        assert_eq!(rt; ran.status, Status::DiskFault, "call {call}");
+        same(&rt, &ran.status, &Status::DiskFault, "call");
         assert!(rt; ran.written.is_empty() && !ran.told, "call {call}");
-        assert_eq!(rt;
-            count_on(&rt, rt.alloc(), ran.disk.bytes())?,
-            5,
-            "call {call}"
+        same(
+            &rt,
+            &count_on(&rt, rt.alloc(), ran.disk.bytes())?,
+            &5,
+            "call",
         );
     }
     Ok(())

@@ -1,4 +1,5 @@
 // Rows tape and second run.
+use crate::same::{same, same_bytes};
 use crate::support::{CALLS, disk_of, is_report, new_tape, run_on};
 use dcr_app::Status;
 use dcr_fakes::DiskCall;
@@ -34,11 +35,11 @@ end 1
 #[test]
 fn row_tape(rt: HostRuntime) -> Result<(), Fail> {
     let ran = run_on(&rt, rt.alloc(), CALLS, disk_of(rt.alloc(), &[], &[])?)?;
-    assert_eq!(rt; ran.status, Status::Done);
+    same(&rt, &ran.status, &Status::Done, "ran.status");
     assert!(rt; ran.told && is_report(rt.alloc(), &ran.written, REPORT)?);
     let bytes = ran.disk.bytes();
-    assert_eq!(rt; bytes.len(), 125);
-    assert_eq!(rt; bytes, new_tape(rt.alloc())?.as_slice());
+    same(&rt, &bytes.len(), &125, "bytes.len()");
+    same_bytes(&rt, bytes, new_tape(rt.alloc())?.as_slice(), "bytes");
     // Making makes four calls, and so does each append.
     let calls = ran.disk.calls();
     assert_eq!(rt; calls.len(), 24);
@@ -67,9 +68,9 @@ fn row_second_run(rt: HostRuntime) -> Result<(), Fail> {
         r#""exec doctor pm""#,
         disk_of(rt.alloc(), &[], &[])?,
     )?;
-    assert_eq!(rt; ran.status, Status::Done);
+    same(&rt, &ran.status, &Status::Done, "ran.status");
     let ran = run_on(&rt, rt.alloc(), r#""exec doctor s""#, ran.disk)?;
-    assert_eq!(rt; ran.status, Status::Done);
+    same(&rt, &ran.status, &Status::Done, "ran.status");
     assert!(rt; ran.told && is_report(rt.alloc(), &ran.written, SECOND)?);
     Ok(())
 }
@@ -79,8 +80,13 @@ fn calls_that_execute_nothing_write_nothing(rt: HostRuntime) -> Result<(), Fail>
     let disk = disk_of(rt.alloc(), &new_tape(rt.alloc())?, &[])?;
     let calls = r#""accepting","look nurse","enabled doctor","exec nurse pm""#;
     let ran = run_on(&rt, rt.alloc(), calls, disk)?;
-    assert_eq!(rt; ran.status, Status::Done);
-    assert_eq!(rt; ran.disk.bytes(), new_tape(rt.alloc())?.as_slice());
+    same(&rt, &ran.status, &Status::Done, "ran.status");
+    same_bytes(
+        &rt,
+        ran.disk.bytes(),
+        new_tape(rt.alloc())?.as_slice(),
+        "ran.disk.bytes()",
+    );
     for call in ran.disk.calls() {
         assert!(rt; !matches!(call, DiskCall::Write { .. }));
     }

@@ -1,4 +1,5 @@
 // What the rows have in common: the case of the doctor and the nurse, its tapes, and a run with a store.
+use crate::same::same;
 use dcr_app::{Status, dcr};
 use dcr_base::{OpenGate, StdSink, StdSource};
 use dcr_fakes::{MemDisk, MemDoor};
@@ -139,10 +140,10 @@ pub(crate) fn count_on<R: Threads + Wait + Sync + Abort>(
     assert!(rt; entries.as_slice() == &ENTRIES[..count]);
     let ran = run_on(rt, alloc, "", disk_of(alloc, bytes, &[])?)?;
     let front = format!(in alloc; "{HEAD}{}site ", OPEN[count])?;
-    assert_eq!(rt; ran.status, Status::Done);
+    same(rt, &ran.status, &Status::Done, "ran.status");
     assert!(rt; ran.written.starts_with(front.as_bytes()));
     let ran = run_on(rt, alloc, &joined(alloc, &DONE[count..])?, ran.disk)?;
-    assert_eq!(rt; ran.status, Status::Done);
+    same(rt, &ran.status, &Status::Done, "ran.status");
     let entries = entries_on(alloc, ran.disk.bytes())?;
     assert!(rt; entries.as_slice() == ENTRIES.as_slice());
     Ok(count)

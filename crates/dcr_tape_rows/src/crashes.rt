@@ -1,4 +1,5 @@
 // Rows on a crash within each call of the disk, and on a fault of each.
+use crate::same::same;
 use crate::support::{DIGEST, ENTRIES, append_one, disk_of, old_tape, opened};
 use dcr_fakes::MemDisk;
 use dcr_tape::{DiskFault, Tape, TapeCause, TapeEntry, open_tape};
@@ -42,7 +43,7 @@ fn with_the_rest(
 ) -> Result<MemDisk, Fail> {
     let mut tape = tape;
     assert!(rt; !tape.stopped());
-    assert_eq!(rt; tape.renew(alloc), Ok(()));
+    same(rt, &tape.renew(alloc), &Ok(()), "tape.renew(alloc)");
     for entry in rest {
         append_one(rt, &mut tape, *entry);
     }
@@ -79,7 +80,7 @@ fn a_crash_within_an_append_leaves_it_or_not(rt: HostRuntime) -> Result<(), Fail
         }
     }
     let count = count_in(&rt, rt.alloc(), &disk.image(rt.alloc(), 25, 0)?)?;
-    assert_eq!(rt; count, 5);
+    same(&rt, &count, &5, "count");
     Ok(())
 }
 
@@ -89,18 +90,19 @@ fn a_crash_within_the_renewal_keeps_the_entries(rt: HostRuntime) -> Result<(), F
         return Err(Fail::from("an old tape is opened"));
     };
     assert!(rt; !tape.stopped());
-    assert_eq!(rt; tape.renew(rt.alloc()), Ok(()));
+    same(
+        &rt,
+        &tape.renew(rt.alloc()),
+        &Ok(()),
+        "tape.renew(rt.alloc())",
+    );
     let disk = tape.into_disk();
     let calls = disk.calls().len();
     assert!(rt; calls >= 5 && calls <= 100);
     for call in calls - 4..=calls {
         for choice in CHOICES {
             let image = disk.image(rt.alloc(), call as u32, choice)?;
-            assert_eq!(rt;
-                count_in(&rt, rt.alloc(), &image)?,
-                5,
-                "call {call}, {choice:x}"
-            );
+            same(&rt, &count_in(&rt, rt.alloc(), &image)?, &5, "call");
         }
     }
     Ok(())
@@ -114,7 +116,12 @@ fn each_call_of_making_fails_in_turn(rt: HostRuntime) -> Result<(), Fail> {
             return Err(Fail::from("a fault is told"));
         };
         assert!(rt; refused.cause == TapeCause::DiskFault, "call {call}");
-        assert_eq!(rt; refused.disk.calls().len(), call as usize);
+        same(
+            &rt,
+            &refused.disk.calls().len(),
+            &(call as usize),
+            "refused.disk.calls().len()",
+        );
     }
     Ok(())
 }
@@ -127,13 +134,18 @@ fn each_call_of_an_append_fails_in_turn(rt: HostRuntime) -> Result<(), Fail> {
             return Err(Fail::from("an empty disk is made a tape"));
         };
         assert!(rt; !tape.stopped() && tape.renewed() && tape.entries() < 1_200_000);
-        assert_eq!(rt; tape.append(ENTRIES[0]), Ok(()));
+        same(
+            &rt,
+            &tape.append(ENTRIES[0]),
+            &Ok(()),
+            "tape.append(ENTRIES[0])",
+        );
         assert!(rt; !tape.stopped() && tape.renewed() && tape.entries() < 1_200_000);
-        assert_eq!(rt; tape.append(ENTRIES[1]), Err(DiskFault), "call {call}");
+        same(&rt, &tape.append(ENTRIES[1]), &Err(DiskFault), "call");
         assert!(rt; tape.stopped());
         // The gate is written by the third call, and is there whether it is durable or not.
         let count = count_in(&rt, rt.alloc(), tape.into_disk().bytes())?;
-        assert_eq!(rt; count, if call == 4 { 2 } else { 1 }, "call {call}");
+        same(&rt, &count, &(if call == 4 { 2 } else { 1 }), "call");
     }
     Ok(())
 }

@@ -1,4 +1,5 @@
 // A real file, in the folder that the tests run in.
+use crate::same::same;
 use crate::support::{DIGEST, ENTRIES};
 use dcr_base::{Disk, FileDisk};
 use dcr_tape::open_tape;
@@ -12,14 +13,19 @@ fn a_file_is_made_appended_to_and_found_again(rt: HostRuntime) -> Result<(), Fai
     let Ok((mut tape, entries)) = open_tape(rt.alloc(), disk, &DIGEST) else {
         return Err(Fail::from("a file is made"));
     };
-    assert_eq!(rt; entries.len(), 0);
+    same(&rt, &entries.len(), &0, "entries.len()");
     assert!(rt; !tape.stopped() && tape.renewed() && tape.entries() < 1_200_000);
-    assert_eq!(rt; tape.append(ENTRIES[0]), Ok(()));
+    same(
+        &rt,
+        &tape.append(ENTRIES[0]),
+        &Ok(()),
+        "tape.append(ENTRIES[0])",
+    );
     drop(tape);
     let bytes = fs::read(&rt, "dcr.tape")?;
     let mut disk = FileDisk::new(rt.alloc(), rt.clone()?);
-    assert_eq!(rt; disk.len(), Ok(77));
-    assert_eq!(rt; bytes.len(), 77);
+    same(&rt, &disk.len(), &Ok(77), "disk.len()");
+    same(&rt, &bytes.len(), &77, "bytes.len()");
     let Ok((_, entries)) = open_tape(rt.alloc(), disk, &DIGEST) else {
         return Err(Fail::from("the file is opened again"));
     };

@@ -10,6 +10,8 @@ mod refusals;
 #[cfg(test)]
 mod renewing;
 #[cfg(test)]
+mod same;
+#[cfg(test)]
 mod support;
 #[cfg(test)]
 mod tape;

@@ -1,6 +1,7 @@
 // Rows on bytes that are no tape of the case.
 ghost use Rattle.std.specs.Prelude.{◌<◌};
 
+use crate::same::same;
 use crate::support::{DIGEST, header, new_tape, old_tape, opened, refusal};
 use dcr_tape::TapeCause;
 use std::alloc::{AllocError, Global};
@@ -138,7 +139,7 @@ fn what_the_graph_refuses_is_read(rt: HostRuntime) -> Result<(), Fail> {
         return Err(Fail::from("the bytes are those of a tape"));
     };
     assert!(rt; entries.len() == 5);
-    assert_eq!(rt; entries[0].site, 2304);
+    same(&rt, &entries[0].site, &2304, "entries[0].site");
     Ok(())
 }
 
@@ -149,6 +150,6 @@ fn bytes_behind_the_gate_mean_nothing(rt: HostRuntime) -> Result<(), Fail> {
     let Ok((_, entries)) = opened(rt.alloc(), &bytes)? else {
         return Err(Fail::from("the bytes are those of a tape"));
     };
-    assert_eq!(rt; entries.len(), 5);
+    same(&rt, &entries.len(), &5, "entries.len()");
     Ok(())
 }

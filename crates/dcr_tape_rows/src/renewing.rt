@@ -1,4 +1,5 @@
 // Rows on a tape of version 1 that is renewed.
+use crate::same::{same, same_bytes};
 use crate::support::{
     DIGEST, ENTRIES, assert_synced, assert_wrote, disk_of, new_tape, old_tape, opened,
 };
@@ -28,13 +29,23 @@ fn a_renewed_tape_takes_one_more(rt: HostRuntime) -> Result<(), Fail> {
     };
     assert!(rt; entries.as_slice() == ENTRIES.as_slice());
     assert!(rt; !tape.renewed() && !tape.stopped());
-    assert_eq!(rt; tape.renew(rt.alloc()), Ok(()));
+    same(
+        &rt,
+        &tape.renew(rt.alloc()),
+        &Ok(()),
+        "tape.renew(rt.alloc())",
+    );
     assert!(rt; tape.renewed() && !tape.stopped() && tape.entries() < 1_200_000);
-    assert_eq!(rt; tape.append(TapeEntry { event: 2, site: 1 }), Ok(()));
+    same(
+        &rt,
+        &tape.append(TapeEntry { event: 2, site: 1 }),
+        &Ok(()),
+        "tape.append(TapeEntry { event: 2, site: 1 })",
+    );
     let disk = tape.into_disk();
     let bytes = disk.bytes();
-    assert_eq!(rt; bytes.len(), 242);
-    assert_eq!(rt; bytes, renewed_tape(rt.alloc())?.as_slice());
+    same(&rt, &bytes.len(), &242, "bytes.len()");
+    same_bytes(&rt, bytes, renewed_tape(rt.alloc())?.as_slice(), "bytes");
     Ok(())
 }
 
@@ -46,7 +57,7 @@ fn a_renewal_makes_five_calls(rt: HostRuntime) -> Result<(), Fail> {
         return Err(Fail::from("an old tape is opened"));
     };
     assert!(rt; !tape.stopped());
-    assert_eq!(rt; tape.renew(alloc), Ok(()));
+    same(&rt, &tape.renew(alloc), &Ok(()), "tape.renew(alloc)");
     let disk = tape.into_disk();
     let calls = disk.calls();
     assert!(rt; before <= 100 && calls.len() == before + 5);
@@ -90,8 +101,18 @@ fn a_tape_that_is_renewed_is_left_alone(rt: HostRuntime) -> Result<(), Fail> {
         return Err(Fail::from("an empty disk is made a tape"));
     };
     assert!(rt; !tape.stopped());
-    assert_eq!(rt; tape.renew(rt.alloc()), Ok(()));
-    assert_eq!(rt; tape.into_disk().calls().len(), 4);
+    same(
+        &rt,
+        &tape.renew(rt.alloc()),
+        &Ok(()),
+        "tape.renew(rt.alloc())",
+    );
+    same(
+        &rt,
+        &tape.into_disk().calls().len(),
+        &4,
+        "tape.into_disk().calls().len()",
+    );
     Ok(())
 }
 
@@ -110,10 +131,11 @@ fn a_fault_within_the_renewal_keeps_the_entries(rt: HostRuntime) -> Result<(), F
     for fault in 1..=5 {
         let mut tape = renew_with_a_fault(rt.alloc(), fault)?;
         assert!(rt; !tape.stopped());
-        assert_eq!(rt;
-            tape.renew(rt.alloc()),
-            Err(RenewStop::DiskFault),
-            "call {fault}"
+        same(
+            &rt,
+            &tape.renew(rt.alloc()),
+            &Err(RenewStop::DiskFault),
+            "call",
         );
         assert!(rt; tape.stopped());
         let disk = tape.into_disk();

@@ -1,4 +1,5 @@
 // What the rows have in common: the digest of their case, the bytes of their tapes, and how a tape is opened.
+use crate::same::same;
 use dcr_fakes::{DiskCall, MemDisk};
 use dcr_tape::{Tape, TapeCause, TapeEntry, TapeRefused, open_tape};
 use std::alloc::{AllocError, Global};
@@ -33,7 +34,7 @@ pub(crate) fn opened(
 /// Puts an execution on a tape, which takes it.
 pub(crate) fn append_one(rt: &impl Abort, tape: &mut Tape<MemDisk>, entry: TapeEntry) {
     assert!(rt; !tape.stopped() && tape.renewed() && tape.entries() < 1_200_000);
-    assert_eq!(rt; tape.append(entry), Ok(()));
+    same(rt, &tape.append(entry), &Ok(()), "tape.append(entry)");
 }
 
 /// That a call of the disk was a write that succeeded, of these bytes at this offset.

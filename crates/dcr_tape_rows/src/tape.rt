@@ -1,4 +1,5 @@
 // Rows on an empty disk: making a tape and appending to it.
+use crate::same::{same, same_bytes};
 use crate::support::{
     DIGEST, ENTRIES, append_one, assert_synced, assert_wrote, disk_of, new_tape, opened,
 };
@@ -20,10 +21,15 @@ fn five_executions_leave_125_bytes(rt: HostRuntime) -> Result<(), Fail> {
     let Ok((mut tape, entries)) = open_tape(rt.alloc(), disk, &DIGEST) else {
         return Err(Fail::from("an empty disk is made a tape"));
     };
-    assert_eq!(rt; entries.len(), 0);
+    same(&rt, &entries.len(), &0, "entries.len()");
     append_all(&rt, &mut tape);
     let disk = tape.into_disk();
-    assert_eq!(rt; disk.bytes(), new_tape(rt.alloc())?.as_slice());
+    same_bytes(
+        &rt,
+        disk.bytes(),
+        new_tape(rt.alloc())?.as_slice(),
+        "disk.bytes()",
+    );
     Ok(())
 }
 
@@ -37,7 +43,7 @@ fn the_third_append_makes_four_calls(rt: HostRuntime) -> Result<(), Fail> {
     let disk = tape.into_disk();
     let calls = disk.calls();
     // Making: a sync, the length, a write, a sync. Then four calls for each execution.
-    assert_eq!(rt; calls.len(), 24);
+    same(&rt, &calls.len(), &24, "calls.len()");
     assert_synced(&rt, calls, 0);
     assert_synced(&rt, calls, 3);
     assert_wrote(&rt, calls, 12, 89, &[0, 3, 0, 1, 0, 0, 0, 2, 0, 0, 0, 0]);
@@ -55,6 +61,11 @@ fn a_tape_that_was_left_is_opened_again(rt: HostRuntime) -> Result<(), Fail> {
     assert!(rt; entries.as_slice() == ENTRIES.as_slice());
     assert!(rt; tape.renewed() && !tape.stopped());
     let disk = tape.into_disk();
-    assert_eq!(rt; disk.bytes(), new_tape(rt.alloc())?.as_slice());
+    same_bytes(
+        &rt,
+        disk.bytes(),
+        new_tape(rt.alloc())?.as_slice(),
+        "disk.bytes()",
+    );
     Ok(())
 }

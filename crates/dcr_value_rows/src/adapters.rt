@@ -1,4 +1,5 @@
 // Worked rows: what the adapters make of each answer of a reader and a writer of std, and how often they ask for one.
+use crate::same::same;
 use dcr_base::{Failed, Sink, Source, StdSink, StdSource, WriteFault, read_all, write_all};
 use std::io;
 use std::io::{Error, ErrorKind, Read, Write};
@@ -165,7 +166,7 @@ fn a_read_asks_until_it_is_not_interrupted(rt: HostRuntime) {
         let mut source = StdSource::new(Script::of(row.answers));
         let mut buf = [b'-'; 4];
         assert!(rt; source.read(&mut buf) == row.told, "{}", row.name);
-        assert_eq!(rt; source.into_inner().asked, row.asked, "{}", row.name);
+        same(&rt, &source.into_inner().asked, &row.asked, row.name);
     }
 }
 
@@ -174,7 +175,7 @@ fn a_write_asks_until_it_is_not_interrupted(rt: HostRuntime) {
     for row in &ROWS {
         let mut sink = StdSink::new(Script::of(row.answers));
         assert!(rt; sink.write(b"abcd") == row.told, "{}", row.name);
-        assert_eq!(rt; sink.into_inner().asked, row.asked, "{}", row.name);
+        same(&rt, &sink.into_inner().asked, &row.asked, row.name);
     }
 }
 
@@ -185,14 +186,21 @@ fn a_failure_ends_the_reading_and_the_writing(rt: HostRuntime) {
         let answers = [Moves(3), INTERRUPTED, Moves(2), Fails(kind), Moves(0)];
         let mut source = StdSource::new(Script::of(&answers));
         assert!(rt; read_all(rt.alloc(), &mut source, 100).is_err());
-        assert_eq!(rt; source.into_inner().asked, 4);
+        same(
+            &rt,
+            &source.into_inner().asked,
+            &4,
+            "source.into_inner().asked",
+        );
 
         let mut sink = StdSink::new(Script::of(&answers));
-        assert_eq!(rt;
-            write_all(&mut sink, b"abcdefghij"),
-            Err(WriteFault { written: 5 })
+        same(
+            &rt,
+            &write_all(&mut sink, b"abcdefghij"),
+            &Err(WriteFault { written: 5 }),
+            "a_failure_ends_the_reading_and_the_writing",
         );
-        assert_eq!(rt; sink.into_inner().asked, 4);
+        same(&rt, &sink.into_inner().asked, &4, "sink.into_inner().asked");
     }
 }
 
@@ -201,18 +209,53 @@ fn a_failure_ends_the_reading_and_the_writing(rt: HostRuntime) {
 fn a_reader_that_has_ended_is_asked_no_more(rt: HostRuntime) -> Result<(), Fail> {
     let answers = [Moves(3), Moves(2), Moves(0), Moves(1), Moves(0)];
     let mut source = StdSource::new(Script::of(&answers));
-    assert_eq!(rt; read_all(rt.alloc(), &mut source, 5)?.len(), 5);
-    assert_eq!(rt; source.read(&mut [0; 4]), Ok(0));
-    assert_eq!(rt; source.read(&mut []), Ok(0));
-    assert_eq!(rt; read_all(rt.alloc(), &mut source, 5)?.len(), 0);
-    assert_eq!(rt; source.into_inner().asked, 3);
+    same(
+        &rt,
+        &read_all(rt.alloc(), &mut source, 5)?.len(),
+        &5,
+        "read_all(rt.alloc(), &mut source, 5)?.len()",
+    );
+    same(
+        &rt,
+        &source.read(&mut [0; 4]),
+        &Ok(0),
+        "source.read(&mut [0; 4])",
+    );
+    same(&rt, &source.read(&mut []), &Ok(0), "source.read(&mut [])");
+    same(
+        &rt,
+        &read_all(rt.alloc(), &mut source, 5)?.len(),
+        &0,
+        "read_all(rt.alloc(), &mut source, 5)?.len()",
+    );
+    same(
+        &rt,
+        &source.into_inner().asked,
+        &3,
+        "source.into_inner().asked",
+    );
 
     // A failure behind the end isn't seen either.
     let answers = [Moves(0), Fails(ErrorKind::BrokenPipe)];
     let mut source = StdSource::new(Script::of(&answers));
-    assert_eq!(rt; source.read(&mut [0; 4]), Ok(0));
-    assert_eq!(rt; source.read(&mut [0; 4]), Ok(0));
-    assert_eq!(rt; source.into_inner().asked, 1);
+    same(
+        &rt,
+        &source.read(&mut [0; 4]),
+        &Ok(0),
+        "source.read(&mut [0; 4])",
+    );
+    same(
+        &rt,
+        &source.read(&mut [0; 4]),
+        &Ok(0),
+        "source.read(&mut [0; 4])",
+    );
+    same(
+        &rt,
+        &source.into_inner().asked,
+        &1,
+        "source.into_inner().asked",
+    );
     Ok(())
 }
 
@@ -220,20 +263,42 @@ fn a_reader_that_has_ended_is_asked_no_more(rt: HostRuntime) -> Result<(), Fail>
 fn a_read_into_no_room_is_not_the_end(rt: HostRuntime) {
     let answers = [Moves(2), Moves(2), Moves(0)];
     let mut source = StdSource::new(Script::of(&answers));
-    assert_eq!(rt; source.read(&mut []), Ok(0));
-    assert_eq!(rt; source.read(&mut [0; 4]), Ok(2));
-    assert_eq!(rt; source.read(&mut [0; 4]), Ok(0));
-    assert_eq!(rt; source.into_inner().asked, 3);
+    same(&rt, &source.read(&mut []), &Ok(0), "source.read(&mut [])");
+    same(
+        &rt,
+        &source.read(&mut [0; 4]),
+        &Ok(2),
+        "source.read(&mut [0; 4])",
+    );
+    same(
+        &rt,
+        &source.read(&mut [0; 4]),
+        &Ok(0),
+        "source.read(&mut [0; 4])",
+    );
+    same(
+        &rt,
+        &source.into_inner().asked,
+        &3,
+        "source.into_inner().asked",
+    );
 }
 
 #[test]
 fn a_write_that_takes_nothing_is_not_tried_again(rt: HostRuntime) {
     let answers = [Moves(0), Moves(2), Moves(0), Moves(4)];
     let mut sink = StdSink::new(Script::of(&answers));
-    assert_eq!(rt; sink.write(b"abcd"), Err(Failed));
-    assert_eq!(rt;
-        write_all(&mut sink, b"abcd"),
-        Err(WriteFault { written: 2 })
+    same(
+        &rt,
+        &sink.write(b"abcd"),
+        &Err(Failed),
+        "a_write_that_takes_nothing_is_not_tried_again",
     );
-    assert_eq!(rt; sink.into_inner().asked, 3);
+    same(
+        &rt,
+        &write_all(&mut sink, b"abcd"),
+        &Err(WriteFault { written: 2 }),
+        "a_write_that_takes_nothing_is_not_tried_again",
+    );
+    same(&rt, &sink.into_inner().asked, &3, "sink.into_inner().asked");
 }

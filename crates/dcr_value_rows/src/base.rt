@@ -1,4 +1,5 @@
 // Worked rows: reading and writing whole texts in pieces, with faults in the middle of them.
+use crate::same::{same, same_bytes};
 use dcr_base::{
     Failed, ReadStop, Sink, Source, StdSink, StdSource, WriteFault, read_all, write_all,
 };
@@ -163,11 +164,7 @@ fn reads_up_to_the_limit(rt: HostRuntime) -> Result<(), Fail> {
                 read == Err(ReadStop::TooLong),
                 "step {step}, limit {limit}"
             );
-            assert_eq!(rt;
-                source.rest.len(),
-                4999 - limit,
-                "step {step}, limit {limit}"
-            );
+            same(&rt, &source.rest.len(), &(4999 - limit), "step , limit");
         }
     }
     Ok(())
@@ -177,11 +174,13 @@ fn reads_up_to_the_limit(rt: HostRuntime) -> Result<(), Fail> {
 fn reads_with_no_room(rt: HostRuntime) -> Result<(), Fail> {
     assert!(rt; read_all(rt.alloc(), &mut make_pieces(b"", 1, 0), 0)?.is_empty());
     let mut source = make_pieces(b"ab", 2, 0);
-    assert_eq!(rt;
-        read_all(rt.alloc(), &mut source, 0),
-        Err(ReadStop::TooLong)
+    same(
+        &rt,
+        &read_all(rt.alloc(), &mut source, 0),
+        &Err(ReadStop::TooLong),
+        "read_all(rt.alloc(), &mut source, 0)",
     );
-    assert_eq!(rt; source.rest, b"b".as_slice());
+    same_bytes(&rt, source.rest, b"b".as_slice(), "source.rest");
     Ok(())
 }
 
@@ -191,8 +190,8 @@ fn a_fault_in_mid_stream_stops_the_read(rt: HostRuntime) -> Result<(), Fail> {
         let mut source = make_pieces(b"0123456789", 3, fails_at);
         let read = read_all(rt.alloc(), &mut source, 100);
         assert!(rt; read == Err(ReadStop::ReadFault), "at call {fails_at}");
-        assert_eq!(rt; source.faults, 1, "at call {fails_at}");
-        assert_eq!(rt; source.rest.len(), left, "at call {fails_at}");
+        same(&rt, &source.faults, &1, "at call");
+        same(&rt, &source.rest.len(), &left, "at call");
         let rest = source.rest;
         assert!(rt;
             read_all(rt.alloc(), &mut source, 100)?.as_slice() == rest,
@@ -205,11 +204,18 @@ fn a_fault_in_mid_stream_stops_the_read(rt: HostRuntime) -> Result<(), Fail> {
 #[test]
 fn a_std_reader_is_a_source(rt: HostRuntime) -> Result<(), Fail> {
     let mut source = StdSource::new(Cursor::new(b"some text".as_slice()));
-    assert_eq!(rt;
+    same_bytes(
+        &rt,
         read_all(rt.alloc(), &mut source, 9)?.as_slice(),
-        b"some text".as_slice()
+        b"some text".as_slice(),
+        "read_all(rt.alloc(), &mut source, 9)?.as_slice()",
     );
-    assert_eq!(rt; source.into_inner().position(), 9);
+    same(
+        &rt,
+        &source.into_inner().position(),
+        &9,
+        "source.into_inner().position()",
+    );
     Ok(())
 }
 
@@ -218,25 +224,52 @@ fn an_interrupted_call_is_tried_again(rt: HostRuntime) {
     let mut source = StdSource::new(Interrupted::new());
     let mut buf = [9; 2];
     for byte in 1..=3u8 {
-        assert_eq!(rt; source.read(&mut buf), Ok(1));
-        assert_eq!(rt; buf, [byte, 9]);
+        same(&rt, &source.read(&mut buf), &Ok(1), "source.read(&mut buf)");
+        same(&rt, &buf, &[byte, 9], "buf");
     }
-    assert_eq!(rt; source.read(&mut buf), Err(Failed));
-    assert_eq!(rt; source.read(&mut buf), Err(Failed));
+    same(
+        &rt,
+        &source.read(&mut buf),
+        &Err(Failed),
+        "source.read(&mut buf)",
+    );
+    same(
+        &rt,
+        &source.read(&mut buf),
+        &Err(Failed),
+        "source.read(&mut buf)",
+    );
 
     let mut sink = StdSink::new(Interrupted::new());
-    assert_eq!(rt;
-        write_all(&mut sink, b"abcde"),
-        Err(WriteFault { written: 3 })
+    same(
+        &rt,
+        &write_all(&mut sink, b"abcde"),
+        &Err(WriteFault { written: 3 }),
+        "an_interrupted_call_is_tried_again",
     );
 }
 
 #[test]
 fn a_std_writer_is_a_sink(rt: HostRuntime) -> Result<(), Fail> {
     let mut sink = StdSink::new(Vec::new(rt.alloc()));
-    assert_eq!(rt; write_all(&mut sink, b"some "), Ok(()));
-    assert_eq!(rt; write_all(&mut sink, b"text"), Ok(()));
-    assert_eq!(rt; sink.into_inner().as_slice(), b"some text".as_slice());
+    same(
+        &rt,
+        &write_all(&mut sink, b"some "),
+        &Ok(()),
+        "a_std_writer_is_a_sink",
+    );
+    same(
+        &rt,
+        &write_all(&mut sink, b"text"),
+        &Ok(()),
+        "a_std_writer_is_a_sink",
+    );
+    same_bytes(
+        &rt,
+        sink.into_inner().as_slice(),
+        b"some text".as_slice(),
+        "sink.into_inner().as_slice()",
+    );
     Ok(())
 }
 
@@ -244,13 +277,25 @@ fn a_std_writer_is_a_sink(rt: HostRuntime) -> Result<(), Fail> {
 fn a_writer_that_takes_nothing_has_failed(rt: HostRuntime) {
     let mut room = [0; 4];
     let mut sink = StdSink::new(room.as_mut_slice());
-    assert_eq!(rt;
-        write_all(&mut sink, b"abcdef"),
-        Err(WriteFault { written: 4 })
+    same(
+        &rt,
+        &write_all(&mut sink, b"abcdef"),
+        &Err(WriteFault { written: 4 }),
+        "a_writer_that_takes_nothing_has_failed",
     );
-    assert_eq!(rt; sink.write(b""), Ok(0));
-    assert_eq!(rt; sink.write(b"g"), Err(Failed));
-    assert_eq!(rt; room, [b'a', b'b', b'c', b'd']);
+    same(
+        &rt,
+        &sink.write(b""),
+        &Ok(0),
+        "a_writer_that_takes_nothing_has_failed",
+    );
+    same(
+        &rt,
+        &sink.write(b"g"),
+        &Err(Failed),
+        "a_writer_that_takes_nothing_has_failed",
+    );
+    same(&rt, &room, &[b'a', b'b', b'c', b'd'], "room");
 }
 
 #[test]
@@ -269,11 +314,7 @@ fn a_fault_in_mid_stream_stops_the_write(rt: HostRuntime) {
         };
         let result = write_all(&mut sink, b"abcdef");
         assert!(rt; result == want, "step {step}, room {room}");
-        assert_eq!(rt;
-            sink.faults == 0,
-            result.is_ok(),
-            "step {step}, room {room}"
-        );
+        same(&rt, &(sink.faults == 0), &result.is_ok(), "step , room");
         assert!(rt;
             write_all(&mut sink, b"").is_ok(),
             "step {step}, room {room}"

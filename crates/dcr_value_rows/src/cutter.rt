@@ -1,4 +1,5 @@
 // Lines cut from bytes, however the bytes come.
+use crate::same::{same, same_bytes};
 use dcr_text::{Cut, LineCutter};
 use std::process::Abort;
 use std::test::Fail;
@@ -29,7 +30,7 @@ fn cut(
             Cut::More | Cut::TooLong => return Ok(cut),
         }
     }
-    assert_eq!(rt; left.len(), 0);
+    same(rt, &left.len(), &0, "left.len()");
     Ok(cutter.take(left).1)
 }
 
@@ -38,21 +39,24 @@ fn a_text_in_two_pieces_has_the_same_lines(rt: HostRuntime) -> Result<(), Fail> 
     for at in 0..=TEXT.len() {
         let mut cutter = LineCutter::new(rt.alloc(), 200)?;
         let mut lines = Vec::new(rt.alloc());
-        assert_eq!(rt;
-            cut(&rt, &mut cutter, &TEXT[..at], &mut lines)?,
-            Cut::More,
-            "{at}"
+        same(
+            &rt,
+            &cut(&rt, &mut cutter, &TEXT[..at], &mut lines)?,
+            &Cut::More,
+            "cut",
         );
-        assert_eq!(rt;
-            cut(&rt, &mut cutter, &TEXT[at..], &mut lines)?,
-            Cut::More,
-            "{at}"
+        same(
+            &rt,
+            &cut(&rt, &mut cutter, &TEXT[at..], &mut lines)?,
+            &Cut::More,
+            "cut",
         );
-        assert_eq!(rt; lines.as_slice(), LINES, "{at}");
-        assert_eq!(rt;
-            cut(&rt, &mut cutter, b"\n", &mut lines)?,
-            Cut::More,
-            "{at}"
+        same_bytes(&rt, lines.as_slice(), LINES, "cut");
+        same(
+            &rt,
+            &cut(&rt, &mut cutter, b"\n", &mut lines)?,
+            &Cut::More,
+            "cut",
         );
         assert!(rt; lines.ends_with(b"||foo|"), "{at}");
     }
@@ -64,20 +68,50 @@ fn a_text_byte_by_byte_has_the_same_lines(rt: HostRuntime) -> Result<(), Fail> {
     let mut cutter = LineCutter::new(rt.alloc(), 200)?;
     let mut lines = Vec::new(rt.alloc());
     for byte in TEXT {
-        assert_eq!(rt; cut(&rt, &mut cutter, &[*byte], &mut lines)?, Cut::More);
+        same(
+            &rt,
+            &cut(&rt, &mut cutter, &[*byte], &mut lines)?,
+            &Cut::More,
+            "cut(&rt, &mut cutter, &[*byte], &mut lines)?",
+        );
     }
-    assert_eq!(rt; lines.as_slice(), LINES);
+    same_bytes(&rt, lines.as_slice(), LINES, "lines.as_slice()");
     Ok(())
 }
 
 #[test]
 fn a_line_end_is_used_and_no_byte_behind_it(rt: HostRuntime) -> Result<(), Fail> {
     let mut cutter = LineCutter::new(rt.alloc(), 200)?;
-    assert_eq!(rt; cutter.take(b"look"), (4, Cut::More));
-    assert_eq!(rt; cutter.take(b" pm\r\n\nfoo"), (5, Cut::Line));
-    assert_eq!(rt; cutter.take(b"\nfoo"), (1, Cut::Line));
-    assert_eq!(rt; cutter.take(b"foo"), (3, Cut::More));
-    assert_eq!(rt; cutter.take(b""), (0, Cut::More));
+    same(
+        &rt,
+        &cutter.take(b"look"),
+        &(4, Cut::More),
+        "a_line_end_is_used_and_no_byte_behind_it",
+    );
+    same(
+        &rt,
+        &cutter.take(b" pm\r\n\nfoo"),
+        &(5, Cut::Line),
+        "a_line_end_is_used_and_no_byte_behind_it",
+    );
+    same(
+        &rt,
+        &cutter.take(b"\nfoo"),
+        &(1, Cut::Line),
+        "a_line_end_is_used_and_no_byte_behind_it",
+    );
+    same(
+        &rt,
+        &cutter.take(b"foo"),
+        &(3, Cut::More),
+        "a_line_end_is_used_and_no_byte_behind_it",
+    );
+    same(
+        &rt,
+        &cutter.take(b""),
+        &(0, Cut::More),
+        "a_line_end_is_used_and_no_byte_behind_it",
+    );
     Ok(())
 }
 
@@ -94,12 +128,13 @@ fn one_carriage_return_is_dropped(rt: HostRuntime) -> Result<(), Fail> {
     for (text, line) in rows {
         let mut cutter = LineCutter::new(rt.alloc(), 200)?;
         let mut lines = Vec::new(rt.alloc());
-        assert_eq!(rt;
-            cut(&rt, &mut cutter, text, &mut lines)?,
-            Cut::More,
-            "{text:?}"
+        same(
+            &rt,
+            &cut(&rt, &mut cutter, text, &mut lines)?,
+            &Cut::More,
+            "cut(&rt, &mut cutter, text, &mut lines)?",
         );
-        assert_eq!(rt; lines.as_slice(), line, "{text:?}");
+        same_bytes(&rt, lines.as_slice(), line, "lines.as_slice()");
     }
     Ok(())
 }
@@ -114,17 +149,19 @@ fn a_line_has_as_many_bytes_as_the_limit(rt: HostRuntime) -> Result<(), Fail> {
         for at in [0, 1, 100, 199, 200, 201] {
             let mut cutter = LineCutter::new(rt.alloc(), 200)?;
             let mut lines = Vec::new(rt.alloc());
-            assert_eq!(rt;
-                cut(&rt, &mut cutter, &bytes[..at], &mut lines)?,
-                Cut::More,
-                "{at}"
+            same(
+                &rt,
+                &cut(&rt, &mut cutter, &bytes[..at], &mut lines)?,
+                &Cut::More,
+                "cut",
             );
-            assert_eq!(rt;
-                cut(&rt, &mut cutter, &bytes[at..], &mut lines)?,
-                Cut::More,
-                "{at}"
+            same(
+                &rt,
+                &cut(&rt, &mut cutter, &bytes[at..], &mut lines)?,
+                &Cut::More,
+                "cut",
             );
-            assert_eq!(rt; lines.len(), len + 1, "{at}");
+            same(&rt, &lines.len(), &(len + 1), "lines.len()");
             assert!(rt; lines.starts_with(&bytes[..len]), "{at}");
         }
     }
@@ -136,10 +173,20 @@ fn one_byte_more_is_too_long_and_stays_so(rt: HostRuntime) -> Result<(), Fail> {
     let bytes = [b'a'; 201];
     for at in [0, 1, 100, 200] {
         let mut cutter = LineCutter::new(rt.alloc(), 200)?;
-        assert_eq!(rt; cutter.take(&bytes[..at]), (at, Cut::More), "{at}");
-        assert_eq!(rt; cutter.take(&bytes[at..]), (201 - at, Cut::TooLong), "{at}");
+        same(&rt, &cutter.take(&bytes[..at]), &(at, Cut::More), "cut");
+        same(
+            &rt,
+            &cutter.take(&bytes[at..]),
+            &(201 - at, Cut::TooLong),
+            "cut",
+        );
         for piece in [b"\n".as_slice(), b"", b"a\n", b"\na"] {
-            assert_eq!(rt; cutter.take(piece), (0, Cut::TooLong), "{at} {piece:?}");
+            same(
+                &rt,
+                &cutter.take(piece),
+                &(0, Cut::TooLong),
+                "cutter.take(piece)",
+            );
         }
     }
     Ok(())

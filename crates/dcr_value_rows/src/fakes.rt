@@ -1,4 +1,5 @@
 // Worked rows: that each call can succeed, and what it answers at known values.
+use crate::same::{same, same_bytes};
 use dcr_base::{Failed, ReadStop, Sink, Source, WriteFault, read_all, write_all};
 use dcr_fakes::{MemSink, MemSource};
 use std::process::Abort;
@@ -11,7 +12,7 @@ fn assert_read(rt: &impl Abort, source: &mut MemSource, room: usize, piece: &str
     let mut buf = [b'-'; 10];
     assert!(rt; room <= buf.len());
     let read = source.read(&mut buf[..room]);
-    assert_eq!(rt; read, Ok(piece.len()), "{piece}");
+    same(rt, &read, &Ok(piece.len()), piece);
     assert!(rt; buf.starts_with(piece.as_bytes()), "{piece}");
 }
 
@@ -44,12 +45,17 @@ fn a_source_fails_at_its_second_read_and_goes_on(rt: HostRuntime) -> Result<(), 
     let failing = Vec::from_slice(rt.alloc(), [2].as_slice())?;
     let mut source = MemSource::new(bytes, 3, failing);
     let mut buf = [b'-'; 4];
-    assert_eq!(rt; source.read(&mut buf), Ok(3));
-    assert_eq!(rt; buf, *b"abc-");
-    assert_eq!(rt; source.read(&mut buf), Err(Failed));
-    assert_eq!(rt; buf, *b"abc-");
-    assert_eq!(rt; source.read(&mut buf), Ok(3));
-    assert_eq!(rt; buf, *b"def-");
+    same(&rt, &source.read(&mut buf), &Ok(3), "source.read(&mut buf)");
+    same(&rt, &buf, &*b"abc-", "buf");
+    same(
+        &rt,
+        &source.read(&mut buf),
+        &Err(Failed),
+        "source.read(&mut buf)",
+    );
+    same(&rt, &buf, &*b"abc-", "buf");
+    same(&rt, &source.read(&mut buf), &Ok(3), "source.read(&mut buf)");
+    same(&rt, &buf, &*b"def-", "buf");
     Ok(())
 }
 
@@ -78,8 +84,13 @@ fn a_sink_takes_the_front_and_fails(rt: HostRuntime) {
         let mut sink = MemSink::new(rt.alloc(), room);
         assert!(rt; write_all(&mut sink, TEXT) == want, "room {room}");
         assert!(rt; TEXT.starts_with(sink.taken()), "room {room}");
-        assert_eq!(rt; sink.taken().len(), room);
-        assert_eq!(rt; sink.write(b""), Ok(0));
+        same(&rt, &sink.taken().len(), &room, "sink.taken().len()");
+        same(
+            &rt,
+            &sink.write(b""),
+            &Ok(0),
+            "a_sink_takes_the_front_and_fails",
+        );
     }
 }
 
@@ -87,10 +98,30 @@ fn a_sink_takes_the_front_and_fails(rt: HostRuntime) {
 fn a_sink_fails_at_its_second_write_and_goes_on(rt: HostRuntime) -> Result<(), Fail> {
     let failing = Vec::from_slice(rt.alloc(), [2, 9].as_slice())?;
     let mut sink = MemSink::failing(rt.alloc(), 5, failing);
-    assert_eq!(rt; sink.write(b"abc"), Ok(3));
-    assert_eq!(rt; sink.write(b"def"), Err(Failed));
-    assert_eq!(rt; sink.write(b"ghi"), Ok(2));
-    assert_eq!(rt; sink.write(b"jkl"), Err(Failed));
-    assert_eq!(rt; sink.taken(), b"abcgh".as_slice());
+    same(
+        &rt,
+        &sink.write(b"abc"),
+        &Ok(3),
+        "a_sink_fails_at_its_second_write_and_goes_on",
+    );
+    same(
+        &rt,
+        &sink.write(b"def"),
+        &Err(Failed),
+        "a_sink_fails_at_its_second_write_and_goes_on",
+    );
+    same(
+        &rt,
+        &sink.write(b"ghi"),
+        &Ok(2),
+        "a_sink_fails_at_its_second_write_and_goes_on",
+    );
+    same(
+        &rt,
+        &sink.write(b"jkl"),
+        &Err(Failed),
+        "a_sink_fails_at_its_second_write_and_goes_on",
+    );
+    same_bytes(&rt, sink.taken(), b"abcgh".as_slice(), "sink.taken()");
     Ok(())
 }

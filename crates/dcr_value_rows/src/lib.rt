@@ -16,6 +16,8 @@ mod links;
 #[cfg(test)]
 mod pool;
 #[cfg(test)]
+mod same;
+#[cfg(test)]
 mod set;
 #[cfg(test)]
 mod text;

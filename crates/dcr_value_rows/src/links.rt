@@ -2,6 +2,7 @@
 ghost use Rattle.std.specs.Prelude.{IfOk};
 ghost use Rattle.dcr_fakes.specs.LinkState.{IsFresh};
 
+use crate::same::{same, same_bytes};
 use dcr_base::{Door, Failed, Link, Sink, Source};
 use dcr_fakes::{MemDoor, MemLink, MemSink, MemSource};
 use std::alloc::Global;
@@ -19,13 +20,18 @@ fn asking(alloc: Global, text: &[u8]) -> Result<MemLink, Fail>
 fn a_link_answers_and_its_rest_tells_both(rt: HostRuntime) -> Result<(), Fail> {
     let mut link = asking(rt.alloc(), b"look")?;
     let mut buf = [b'-'; 8];
-    assert_eq!(rt; link.read(&mut buf), Ok(3));
-    assert_eq!(rt; buf, *b"loo-----");
-    assert_eq!(rt; link.write(b"yes\n"), Ok(4));
+    same(&rt, &link.read(&mut buf), &Ok(3), "link.read(&mut buf)");
+    same(&rt, &buf, &*b"loo-----", "buf");
+    same(
+        &rt,
+        &link.write(b"yes\n"),
+        &Ok(4),
+        "a_link_answers_and_its_rest_tells_both",
+    );
     let mut rest = link.finish();
-    assert_eq!(rt; rest.taken(), b"yes\n".as_slice());
-    assert_eq!(rt; rest.read(&mut buf), Ok(1));
-    assert_eq!(rt; buf, *b"koo-----");
+    same_bytes(&rt, rest.taken(), b"yes\n".as_slice(), "rest.taken()");
+    same(&rt, &rest.read(&mut buf), &Ok(1), "rest.read(&mut buf)");
+    same(&rt, &buf, &*b"koo-----", "buf");
     Ok(())
 }
 
@@ -37,16 +43,16 @@ fn a_door_gives_two_links_and_is_shut(rt: HostRuntime) -> Result<(), Fail> {
     let mut door = MemDoor::new(links, Vec::from_slice(rt.alloc(), [2].as_slice())?);
     let mut buf = [b'-'; 8];
     match door.next() {
-        Ok(Some(mut link)) => assert_eq!(rt; link.read(&mut buf), Ok(3)),
+        Ok(Some(mut link)) => same(&rt, &link.read(&mut buf), &Ok(3), "link.read(&mut buf)"),
         _ => assert!(rt; false, "the first link is missing"),
     }
-    assert_eq!(rt; buf, *b"one-----");
+    same(&rt, &buf, &*b"one-----", "buf");
     assert!(rt; matches!(door.next(), Err(Failed)));
     match door.next() {
-        Ok(Some(mut link)) => assert_eq!(rt; link.read(&mut buf), Ok(3)),
+        Ok(Some(mut link)) => same(&rt, &link.read(&mut buf), &Ok(3), "link.read(&mut buf)"),
         _ => assert!(rt; false, "the second link is missing"),
     }
-    assert_eq!(rt; buf, *b"two-----");
+    same(&rt, &buf, &*b"two-----", "buf");
     assert!(rt; matches!(door.next(), Ok(None)));
     assert!(rt; matches!(door.next(), Ok(None)));
     Ok(())

@@ -1,4 +1,5 @@
 // Each call of a set beside the same question put to a plain ascending list of numbers.
+use crate::same::same_text;
 use dcr_set::{EventId, EventSet, MAX_ATOMS, NoMemory, SiteId};
 use std::alloc::{AllocError, AllocFailed, Global};
 use std::hash::{DefaultHasher, Hash, Hasher};
@@ -321,9 +322,11 @@ fn numbers_and_the_error_have_their_derived_parts(rt: HostRuntime) -> Result<(),
     let error = NoMemory::from(AllocError);
     assert!(rt; error == NoMemory::from(AllocFailed { value: event }));
     let printed = format!(in rt.alloc(); "{event:?}, {site:?}, {error:?}: {error}")?;
-    assert_eq!(rt;
+    same_text(
+        &rt,
         printed.as_str(),
-        "EventId(2), SiteId(3), NoMemory: out of memory"
+        "EventId(2), SiteId(3), NoMemory: out of memory",
+        "printed.as_str()",
     );
     Ok(())
 }

@@ -1,4 +1,5 @@
 // Numbers as texts, from outside.
+use crate::same::{same, same_bytes};
 use dcr_text::{decimal, read_decimal};
 use std::test::Fail;
 
@@ -19,8 +20,8 @@ fn numbers_and_their_texts(rt: HostRuntime) -> Result<(), Fail> {
         decimal(n, &mut out)?;
         let mut whole = Vec::from_slice(rt.alloc(), b"n ")?;
         whole.extend_from_slice(text.as_bytes())?;
-        assert_eq!(rt; out.as_slice(), whole.as_slice(), "{n}");
-        assert_eq!(rt; read_decimal(text.as_bytes()), Some(n), "{text}");
+        same_bytes(&rt, out.as_slice(), whole.as_slice(), "out.as_slice()");
+        same(&rt, &read_decimal(text.as_bytes()), &Some(n), text);
     }
     Ok(())
 }
@@ -44,6 +45,6 @@ fn texts_that_are_no_number(rt: HostRuntime) {
         b"1\xff",
     ];
     for text in rows {
-        assert_eq!(rt; read_decimal(text), None, "{text:?}");
+        same(&rt, &read_decimal(text), &None, "read_decimal(text)");
     }
 }
