@@ -1,8 +1,10 @@
 -- The seats that are left at the desk, and the places of those that were served.
+use borrow.Author.Count.{below_more}
 use Rattle.std.proofs.Common.{◌≡◌, ℕ, zero, suc, ◌∷◌, ◌+◌, ◌-◌, ◌<◌, ◌≤◌, List, [], ◌++◌, length, get_or, map, take, drop, Option, None, Some, refl, sym, ap, subst, ◌∙◌, arith, inl, inr}
 use Rattle.std.specs.Prelude.{IsSome, slice_get, slice_index_or}
 use Rattle.std.specs.List.{All, range_with_len}
 use Rattle.std.proofs.lemmas.List.{append-nil, drop_all, get_or-map, length-map, length-take-le, take_all}
+use Rattle.std.proofs.lemmas.Option.{slice_get-get_or}
 use Rattle.std.proofs.lemmas.List.FromFn.{get_or-range_with_len, length-range_with_len}
 use Rattle.std.proofs.lemmas.List.Elements.{All-contains}
 use Rattle.dcr_turn.specs.PassValue.{PassValue}
@@ -85,20 +87,29 @@ pub none_in_place : {L N R : Type 0} (slots : List (Option (Record L N R))) → 
 none_in_place {L = L} {N = N} {R = R} slots none i one is =
     absurd (let some = filled_some slots i one is in let many : length (filled slots) ≡ 0 = ap (λ (l : List (Record L N R)). length l) none in omega (arith, some, many))
 
-pub taken_are : (taken before first after : ℕ) → taken + before ≡ first + after → before ≡ 0 → first ≡ 0 → taken ≡ after
-taken_are taken before first after count none new = omega (arith, count, none, new)
+-- as many were taken as stand there
+pub taken_are : {L N R : Type 0} (slots before after : List (Option (Record L N R))) (taken first : ℕ) → taken + length (filled before) ≡ first + length (filled slots) → filled before ≡ [] → first ≡ 0 → after ≡ slots
+    → taken ≡ length (filled after)
+taken_are {L = L} {N = N} {R = R} slots before after taken first count none new same =
+    let empty : length (filled before) ≡ 0 = ap (λ (l : List (Record L N R)). length l) none in
+    let many : taken ≡ length (filled slots) = omega (arith, count, empty, new) in
+    many ∙ ap (λ (l : List (Option (Record L N R))). length (filled l)) (sym same)
 
--- ---- what is taken out of the first places
+-- ---- no seat is left of a session that was served
 
-pub left_many : (left : List PassValue) (t n : ℕ) → map (λ (seat : PassValue). seat.session) left ≡ numbers_from t n → length left ≡ n - t
-left_many left t n are = sym (length-map left (λ (seat : PassValue). seat.session)) ∙ ap (λ (l : List ℕ). length l) are ∙ length-range_with_len t (n - t)
+pub seat_within : (left now : List PassValue) (k places number : ℕ) (d : PassValue) → All (λ (seat : PassValue). seat.session < places) left → now ≡ left → k < length left
+    → number ≡ (get_or now k d).session → (number < places) × (number ≡ (get_or left k d).session)
+seat_within left now k places number d all same within is =
+    let its : number ≡ (get_or left k d).session = is ∙ ap (λ (l : List PassValue). (get_or l k d).session) same in
+    (subst (λ (n : ℕ). n < places) (sym its) (all k d within), its)
 
--- as many as have no seat left
-pub count_is : (sessions len left t m n : ℕ) → sessions ≡ n → m ≡ n → len ≡ left → left ≡ m - t → t ≤ m → (sessions - len ≡ t) × (len ≤ sessions) × (t + left ≡ n)
-count_is sessions len left t m n all same len_is left_is within =
-    (omega (arith, all, same, len_is, left_is, within), omega (arith, all, same, len_is, left_is, within), omega (arith, all, same, len_is, left_is, within))
+pub one_read : (left : List PassValue) (k : ℕ) (d e : PassValue) → k < length left → get_or left k d ≡ get_or left k e
+one_read left k d e within = let first = slice_get-get_or left k d within in let second = slice_get-get_or left k e within in cc
 
-pub taken_out : {L N R Y : Type 0} (f : Record L N R → Y) (slots : List (Option (Record L N R))) (before after : List Y) (count : ℕ) → before ≡ [] → count ≡ length (filled slots)
-    → filled (take (length (filled slots)) slots) ≡ filled slots → after ≡ before ++ map f (filled (take count slots)) → after ≡ map f (filled slots)
-taken_out {Y = Y} f slots before after count none count_is same is =
-    is ∙ ap (λ (l : List Y). l ++ map f (filled (take count slots))) none ∙ ap (λ (n : ℕ). map f (filled (take n slots))) count_is ∙ ap (map f) same
+-- one seat more
+pub free_more : {X : Type 0} (left : List PassValue) (slots : List (Option X)) (i : ℕ) (d : PassValue) → i < length left
+    → ((j : ℕ) (e : PassValue) → j < i → slice_get slots (slice_index_or left j e).session ≡ Some None) → slice_get slots (get_or left i d).session ≡ Some None
+    → (j : ℕ) (e : PassValue) → j < i + 1 → slice_get slots (slice_index_or left j e).session ≡ Some None
+free_more left slots i d within free here = λ j e behind.
+    below_more (λ (k : ℕ). (p : PassValue) → slice_get slots (slice_index_or left k p).session ≡ Some None) i (λ k before p. free k p before)
+    (λ p. subst (λ (seat : PassValue). slice_get slots seat.session ≡ Some None) (one_read left i d p within) here) j behind e

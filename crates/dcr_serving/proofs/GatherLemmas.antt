@@ -1,5 +1,5 @@
 -- What the workers have served is put in its places.
-use Rattle.std.proofs.Common.{◌≡◌, ◌⊎◌, ℕ, ◌+◌, List, [], ◌∷◌, ◌++◌, length, Option, None, Some, refl, sym, ap, subst, ◌∙◌, append_assoc, arith, inl, inr}
+use Rattle.std.proofs.Common.{◌≡◌, ◌⊎◌, ℕ, ◌+◌, ◌≤◌, List, [], ◌∷◌, ◌++◌, length, Option, None, Some, refl, sym, ap, subst, ◌∙◌, append_assoc, arith, inl, inr}
 use Rattle.std.specs.Prelude.{slice_get, slice_index_or, slice_set}
 use Rattle.std.specs.List.{All, Contains}
 use Rattle.std.proofs.lemmas.List.{append-nil, get_or_append_left, length-append, length-set}
@@ -33,6 +33,15 @@ all_of_rest {X = X} P whole rest x all is =
           (all k d (let more : length whole ≡ length rest + 1 = ap (λ (l : List X). length l) is ∙ length-append rest (x ∷ []) in omega (arith, within, more)))),
       All-contains P whole x all last.there,
     )
+
+pub one_more : (many rest more all hands : ℕ) → hands + many ≡ all → many ≡ rest + 1 → more ≡ hands + 1 → more + rest ≡ all
+one_more many rest more all hands before shorter longer = omega (arith, before, shorter, longer)
+
+pub part_given : (parts_after parts many rest : ℕ) → parts_after + 1 ≡ parts → parts ≡ many + 1 → many ≡ rest + 1 → parts_after ≡ rest + 1
+part_given parts_after parts many rest given before shorter = omega (arith, given, before, shorter)
+
+pub room_more : (many rest more room room_after hands : ℕ) → hands + many ≤ room → many ≡ rest + 1 → more ≡ hands + 1 → room_after ≡ room → more + rest ≤ room_after
+room_more many rest more room room_after hands before shorter longer same = omega (arith, before, shorter, longer, same)
 
 module _ {X : Type 0} (number : X → ℕ) where
   pub record Placing (slots_before slots : List (Option X)) (whole rest : List X) : Type 0 where

@@ -1,5 +1,5 @@
 -- What holds of a session by what its pass has seen holds by the whole history.
-use Rattle.std.proofs.Common.{◌≡◌, ◌⊎◌, ℕ, ◌+◌, ◌<◌, ◌≤◌, List, [], ◌∷◌, ◌++◌, length, get_or, map, drop, Option, Some, refl, sym, ap, subst, ◌∙◌, arith, inl, inr}
+use Rattle.std.proofs.Common.{◌≡◌, ◌⊎◌, ℕ, ◌+◌, ◌<◌, ◌≤◌, List, [], ◌∷◌, ◌++◌, length, get_or, map, drop, Option, Some, sym, ap, subst, ◌∙◌, arith, inl, inr}
 use Rattle.std.specs.Prelude.{slice_get}
 use Rattle.std.proofs.lemmas.List.{append-nil, get_or_append_left, length-append}
 use Rattle.std.proofs.lemmas.Option.{get_or_from_slice_get, slice_get-get_or, slice_get_within}
@@ -8,7 +8,6 @@ use Rattle.dcr_graph.specs.declared.marking.Marking.{Marking}
 use Rattle.dcr_set.specs.EventSet.{Set}
 use Rattle.dcr_journal.specs.Run.{IsLegal}
 use Rattle.dcr_journal.specs.declared.call.Entry.{Entry}
-use Rattle.dcr_journal.specs.declared.call.Outcome.{Outcome}
 use Rattle.dcr_journal.specs.declared.call.Outcome.TheVariants.{Faulted}
 use Rattle.dcr_journal.proofs.SoundLemmas.{answer_no_fault}
 use Rattle.dcr_tape.specs.declared.tape.Store.{Store}
@@ -16,14 +15,14 @@ use Rattle.dcr_turn.specs.PassValue.{HasMadeAll, PassValue}
 use Rattle.dcr_cluster.specs.Calls.{Shows}
 use Rattle.dcr_cluster.specs.declared.halt.Halt.{Halt}
 use Rattle.dcr_cluster.specs.declared.halt.Halt.TheVariants.{Full, Stopped}
-use Rattle.dcr_link.specs.Replies.{Placed, call_of, made_since, placed_of, replies}
-use Rattle.dcr_link.specs.Serving.{EndsBy, Served, Serves}
+use Rattle.dcr_link.specs.Replies.{Placed, call_of, made_since, replies}
+use Rattle.dcr_link.specs.Serving.{EndsBy, Served}
 use Rattle.dcr_link.specs.declared.end.WorkCause.{WorkCause}
 use Rattle.dcr_link.specs.declared.end.WorkCause.TheVariants.{Ended, LinkFault, LongLine, ManyLines, Halted, NoMemory}
 use Rattle.dcr_link.specs.declared.end.WorkEnd.{WorkEnd}
 use Rattle.dcr_link.proofs.ReplyLemmas.{placed_seen}
 use Rattle.dcr_serving.specs.History.{pass_in}
-use Rattle.dcr_serving.specs.Serving.{HasFailed, IsServed, IsServedOf, Tells, new_pass}
+use Rattle.dcr_serving.specs.Serving.{HasFailed, IsServedOf, Tells, new_pass}
 use Rattle.dcr_serving.specs.declared.end.LinkEnd.{LinkEnd}
 
 -- where a call halted nothing comes after what was seen

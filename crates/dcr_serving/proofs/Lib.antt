@@ -3,3 +3,4 @@ pub mod ServingLemmas
 pub mod GatherLemmas
 pub mod DeskLemmas
 pub mod HistoryLemmas
+pub mod TakenLemmas

@@ -89,6 +89,14 @@ pub placed_put : {X : Type 0} (number : X → ℕ) (slots : List (Option X)) (j 
 placed_put number slots j put its in_place i x is =
     numbers_put number slots 0 j put (its ∙ omega arith) (λ k y there. in_place k y there ∙ omega arith) i x is ∙ omega arith
 
+-- what is read at a place stands there
+pub stands_in : {X : Type 0} (slots : List (Option X)) (i j : ℕ) (d slot : Option X) → i ≡ j → j < length slots → get_or slots i d ≡ slot → slice_get slots j ≡ Some slot
+stands_in slots i j d slot same within is = subst (λ (n : ℕ). slice_get slots n ≡ Some slot) same (slice_get-get_or slots i d (omega (arith, same, within)) ∙ ap Some is)
+
+pub not_both : {X : Type 0} (slots : List (Option X)) (i : ℕ) (d e : Option X) (x : X) → i < length slots → get_or slots i d ≡ Some x → get_or slots i e ≡ None → ⊥
+not_both slots i d e x within some none =
+    let full = stands_in slots i i d (Some x) refl within some in let empty = stands_in slots i i e None refl within none in cc
+
 -- ---- the first places, one after the other
 
 some_of : {X : Type 0} (slot : Option X) → IsSome slot → (x : X) × (slot ≡ Some x)
@@ -130,6 +138,16 @@ few_filled {Y = Y} f slots i first now is =
     ap (λ (l : List Y). length l) is ∙ length-append first (map f (filled (take i slots))) ∙ ap (λ (n : ℕ). length first + n) (length-map (filled (take i slots)) f) in
     let few = filled_few slots i in
     omega (arith, many, few)
+
+-- room for one more
+pub fits_more : (len many first i count capacity room : ℕ) → len ≡ many → many ≤ first + i → i < count → first + count ≤ room → capacity ≡ room → len < capacity
+fits_more len many first i count capacity room is few fits enough same = omega (arith, is, few, fits, enough, same)
+
+pub no_less : (i : ℕ) → i ≤ i
+no_less i = omega arith
+
+pub behind_it : (i j : ℕ) → i + 1 ≤ j → (i < j) × (i ≤ j)
+behind_it i j behind = (omega (arith, behind), omega (arith, behind))
 
 -- a place behind the one that was written
 pub get_behind : {X : Type 0} (slots : List X) (i j : ℕ) (put : X) → i < j → slice_get (slice_set slots i put) j ≡ slice_get slots j

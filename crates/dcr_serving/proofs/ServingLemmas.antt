@@ -220,6 +220,9 @@ next_seat left rest seat n total numbers is =
 
 -- ---- one session
 
+pub calls_from_none : (before after calls : ℕ) → before ≡ 0 → after ≡ before + calls → calls ≡ after
+calls_from_none before after calls none made = omega (arith, none, made)
+
 -- from the first call on of a link that had failed in nothing, as what stays of it tells
 pub serves_from_new : {D : Type 0} (first : Option (Store D)) (capacity : ℕ) (sites atoms : List (List ℕ)) (session : ℕ) (before pass : PassValue) (left taken now_taken sent : Option (List ℕ))
     (reads reads_after writes writes_after failed_reads failed_writes : ℕ) (end : WorkEnd)

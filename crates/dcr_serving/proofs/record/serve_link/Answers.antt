@@ -1,15 +1,15 @@
-use Rattle.std.proofs.Common.{◌≡◌, ℕ, List, ap, subst, sym, arith}
+use Rattle.std.proofs.Common.{◌≡◌, ℕ, List, ap, subst, sym}
 use Rattle.std.specs.Prelude.{Option, IsSome}
 use Rattle.std.specs.Io.KnownBytes.{IsAtEnd}
 use Rattle.dcr_turn.specs.PassValue.{PassValue}
-use Rattle.dcr_serving.proofs.ServingLemmas.{rose_from_none, serves_from_new}
+use Rattle.dcr_serving.proofs.ServingLemmas.{calls_from_none, rose_from_none, serves_from_new}
 use Rattle.dcr_serving.proofs.record.serve_link.Goals as goal
 
 pub returns-clause-served : goal.returns-clause-served
 returns-clause-served g c =
     let none : c.into_pass-pass.result.made ≡ 0 = ap (λ (p : PassValue). p.made) c.into_pass-pass.ensures.new in
     record {
-      calls = (let made = c.serve_session-end.ensures.calls in omega (arith, none, made));
+      calls = calls_from_none _ _ _ none c.serve_session-end.ensures.calls;
       serves =
           serves_from_new g.N.StoreName.first g.N.TurnName.capacity c.args.cover.now.names c.args.graph.now.names c.args.seat.session c.into_pass-pass.result c.serve_session-end.new.pass
           (g.L.Source.left c.args.link) (g.L.Sink.taken c.args.link) _ _ _ _ _ _ _ _ c.serve_session-end.result

@@ -1,10 +1,10 @@
-use Rattle.std.proofs.Common.{◌≡◌, ◌+◌, [], ◌∷◌, length, ap, subst, sym, ◌∙◌, arith}
+use Rattle.std.proofs.Common.{◌≡◌, ◌+◌, [], ◌∷◌, length, ap, subst, sym, ◌∙◌}
 use Rattle.std.specs.List.{All}
 use Rattle.std.proofs.lemmas.List.{length-append}
 use Rattle.std.proofs.lemmas.List.Elements.{All-push}
 use Rattle.dcr_serving.specs.Hands.{IsReady}
 use Rattle.dcr_serving.specs.Placing.{HasRoom}
-use Rattle.dcr_serving.proofs.GatherLemmas.{all_of_rest}
+use Rattle.dcr_serving.proofs.GatherLemmas.{all_of_rest, one_more, part_given, room_more}
 use Rattle.dcr_serving.proofs.room.deal.Goals as goal
 
 pub loop-records-preserved : goal.loop-records-preserved
@@ -14,10 +14,10 @@ loop-records-preserved g c =
     let more : length c.push_reserved.new.self.items ≡ length c.loop-records.hands.items + 1 = ap (λ l. length l) c.push_reserved.ensures.items ∙ length-append c.loop-records.hands.items _ in
     let empty = all_of_rest (HasRoom c.args.sessions) c.loop-records.records.items rest c.in-Some.records c.loop-records.invariant.empty c.in-Some.ensures.items in
     record {
-      parts = (let parts = c.loop-records.invariant.parts in let one = c.split.ensures.parts in omega (arith, parts, one, shorter));
+      parts = part_given _ _ _ _ c.split.ensures.parts c.loop-records.invariant.parts shorter;
       taken = c.split.ensures.taken ∙ c.loop-records.invariant.taken;
-      all = (let all = c.loop-records.invariant.all in omega (arith, all, shorter, more));
-      room = (let room = c.loop-records.invariant.room in let same = c.push_reserved.ensures.capacity in omega (arith, room, same, shorter, more));
+      all = one_more _ _ _ _ _ c.loop-records.invariant.all shorter more;
+      room = room_more _ _ _ _ _ _ c.loop-records.invariant.room shorter more c.push_reserved.ensures.capacity;
       empty = empty.0;
       ready =
           subst (All (IsReady c.args.sessions)) (sym c.push_reserved.ensures.items)

@@ -1,16 +1,13 @@
-use Rattle.std.proofs.Common.{◌≡◌, ◌≢◌, ◌+◌, ◌-◌, ◌≤◌, ℕ, List, length, map, ap, subst, sym, ◌∙◌, arith, inr}
-use Rattle.std.specs.Prelude.{Option, IsSome, take}
+use Rattle.std.proofs.Common.{◌≡◌, ◌≢◌, ◌+◌, ℕ, List, length, map, ap, subst, sym, ◌∙◌}
+use Rattle.std.specs.Prelude.{Option}
 use Rattle.std.specs.List.{All, Any}
-use Rattle.std.proofs.lemmas.List.{length-map}
-use Rattle.dcr_base.specs.Count.{Rose}
 use Rattle.dcr_turn.specs.PassValue.{PassValue, new_passes}
-use Rattle.dcr_serve.specs.Left.{AreAllButFirst, numbers_from}
+use Rattle.dcr_serve.specs.Left.{numbers_from}
 use Rattle.dcr_link.specs.declared.end.WorkCause.TheVariants.{NoMemory}
 use Rattle.dcr_serving.specs.Placing.{HasRoom, filled}
-use Rattle.dcr_serving.specs.Serving.{AreServed, Stands}
-use Rattle.dcr_serving.specs.declared.end.LinkEnd.{LinkEnd}
-use Rattle.dcr_serving.proofs.DeskLemmas.{count_is, in_order, left_many, settled, taken_out}
-use Rattle.dcr_serving.proofs.ServingLemmas.{door_unasked, length-new, numbers_new, served_first, served_none, stands_so}
+use Rattle.dcr_serving.specs.Serving.{AreServed}
+use Rattle.dcr_serving.proofs.ServingLemmas.{door_unasked, length-new, numbers_new, served_none}
+use Rattle.dcr_serving.proofs.TakenLemmas.{are_first, are_taken, as_many_new, door_ends, left_numbers, room_for, way_after}
 use Rattle.dcr_serving.proofs.serve.at_desk.Goals as goal
 
 pub returns-in_default-clause-served : goal.returns-in_default-clause-served
@@ -41,100 +38,76 @@ work_at-door-requires-clause-seats g c κs within =
 pub work_at-door-requires-clause-records : goal.work_at-door-requires-clause-records
 work_at-door-requires-clause-records g c κs within =
     let n : ℕ = g.N.TurnName.turn.sessions in
-    let sessions : c.len-sessions.result ≡ n = c.len-sessions.ensures ∙ c.args.passes.ok.0 ∙ ap (λ (l : List PassValue). length l) c.requires.passes ∙ length-new n in
+    let sessions = as_many_new c.len-sessions.result c.args.passes.len g.N.TurnName.turn.sessions c.args.passes.items c.len-sessions.ensures c.args.passes.ok.0 c.requires.passes in
     subst (λ (k : ℕ). All (HasRoom k) c.in-Ok.room.records.items) (sessions ∙ sym c.requires.items) c.in-Ok.ensures.records.1
 
 pub work_at-door-requires-clause-places : goal.work_at-door-requires-clause-places
 work_at-door-requires-clause-places g c κs within =
     let n : ℕ = g.N.TurnName.turn.sessions in
-    let sessions : c.len-sessions.result ≡ n = c.len-sessions.ensures ∙ c.args.passes.ok.0 ∙ ap (λ (l : List PassValue). length l) c.requires.passes ∙ length-new n in
+    let sessions = as_many_new c.len-sessions.result c.args.passes.len g.N.TurnName.turn.sessions c.args.passes.items c.len-sessions.ensures c.args.passes.ok.0 c.requires.passes in
     ap (λ l. length l) c.as_mut_slice-places.ensures.value ∙ c.in-Ok.ensures.slots.0 ∙ sessions ∙ sym c.requires.items
 
 pub overflow_sub-sessions : goal.overflow_sub-sessions
 overflow_sub-sessions g c =
     let n : ℕ = g.N.TurnName.turn.sessions in
-    let sessions : c.len-sessions.result ≡ n = c.len-sessions.ensures ∙ c.args.passes.ok.0 ∙ ap (λ (l : List PassValue). length l) c.requires.passes ∙ length-new n in
-    let slots = c.work_at-door.new.slots in
-    let left = c.work_at-door.result.1.items in
-    let t : ℕ = length (filled slots) in
-    let full = settled slots left g.M.DeskName.items c.work_at-door.ensures.as_many c.work_at-door.ensures.within c.work_at-door.ensures.left c.work_at-door.ensures.free in
-    let counts = count_is c.len-sessions.result c.len.result (length left) t g.M.DeskName.items n sessions c.requires.items (c.len.ensures ∙ c.work_at-door.result.1.ok.0) (left_many left t g.M.DeskName.items c.work_at-door.ensures.left) c.work_at-door.ensures.within in
-    counts.1
+    let sessions = as_many_new c.len-sessions.result c.args.passes.len g.N.TurnName.turn.sessions c.args.passes.items c.len-sessions.ensures c.args.passes.ok.0 c.requires.passes in
+    let at = c.work_at-door.ensures in
+    let first = are_first c.work_at-door.new.slots c.work_at-door.result.1.items c.len-sessions.result c.len.result g.M.DeskName.items n sessions c.requires.items (c.len.ensures ∙ c.work_at-door.result.1.ok.0)
+    at.as_many at.within at.left at.free at.in_place in
+    first.fits
 
 pub take_out-requires-clause-full : goal.take_out-requires-clause-full
 take_out-requires-clause-full g c =
     let n : ℕ = g.N.TurnName.turn.sessions in
-    let sessions : c.len-sessions.result ≡ n = c.len-sessions.ensures ∙ c.args.passes.ok.0 ∙ ap (λ (l : List PassValue). length l) c.requires.passes ∙ length-new n in
-    let slots = c.work_at-door.new.slots in
-    let left = c.work_at-door.result.1.items in
-    let t : ℕ = length (filled slots) in
-    let full = settled slots left g.M.DeskName.items c.work_at-door.ensures.as_many c.work_at-door.ensures.within c.work_at-door.ensures.left c.work_at-door.ensures.free in
-    let counts = count_is c.len-sessions.result c.len.result (length left) t g.M.DeskName.items n sessions c.requires.items (c.len.ensures ∙ c.work_at-door.result.1.ok.0) (left_many left t g.M.DeskName.items c.work_at-door.ensures.left) c.work_at-door.ensures.within in
-    subst (λ (k : ℕ). All IsSome (take k slots)) (sym counts.0) full.0
+    let sessions = as_many_new c.len-sessions.result c.args.passes.len g.N.TurnName.turn.sessions c.args.passes.items c.len-sessions.ensures c.args.passes.ok.0 c.requires.passes in
+    let at = c.work_at-door.ensures in
+    let first = are_first c.work_at-door.new.slots c.work_at-door.result.1.items c.len-sessions.result c.len.result g.M.DeskName.items n sessions c.requires.items (c.len.ensures ∙ c.work_at-door.result.1.ok.0)
+    at.as_many at.within at.left at.free at.in_place in
+    first.full
 
 pub go_on-stand-requires-clause-left : goal.go_on-stand-requires-clause-left
 go_on-stand-requires-clause-left g c =
     let n : ℕ = g.N.TurnName.turn.sessions in
-    let sessions : c.len-sessions.result ≡ n = c.len-sessions.ensures ∙ c.args.passes.ok.0 ∙ ap (λ (l : List PassValue). length l) c.requires.passes ∙ length-new n in
-    let slots = c.work_at-door.new.slots in
-    let left = c.work_at-door.result.1.items in
-    let t : ℕ = length (filled slots) in
-    let full = settled slots left g.M.DeskName.items c.work_at-door.ensures.as_many c.work_at-door.ensures.within c.work_at-door.ensures.left c.work_at-door.ensures.free in
-    let counts = count_is c.len-sessions.result c.len.result (length left) t g.M.DeskName.items n sessions c.requires.items (c.len.ensures ∙ c.work_at-door.result.1.ok.0) (left_many left t g.M.DeskName.items c.work_at-door.ensures.left) c.work_at-door.ensures.within in
-    let passes_are = taken_out (λ one. one.pass) slots c.in-Ok.room.passes.items c.take_out.new.passes.items (c.len-sessions.result - c.len.result) c.in-Ok.ensures.passes.0 counts.0 full.1 c.take_out.ensures.passes in
-    let ends_are = taken_out (λ one. one.end) slots c.in-Ok.room.ends.items c.take_out.new.ends.items (c.len-sessions.result - c.len.result) c.in-Ok.ensures.ends.0 counts.0 full.1 c.take_out.ensures.ends in
-    let passes_many : length c.take_out.new.passes.items ≡ t = ap (λ (l : List PassValue). length l) passes_are ∙ length-map (filled slots) (λ one. one.pass) in
-    let ends_many : length c.take_out.new.ends.items ≡ t = ap (λ l. length l) ends_are ∙ length-map (filled slots) (λ one. one.end) in
-    c.work_at-door.ensures.left
-    ∙ ap (λ (k : ℕ). numbers_from k g.M.DeskName.items) (sym passes_many)
-    ∙ ap (λ (k : ℕ). numbers_from (length c.take_out.new.passes.items) k) (c.requires.items ∙ sym counts.2 ∙ ap (λ (k : ℕ). k + length left) (sym passes_many))
+    let sessions = as_many_new c.len-sessions.result c.args.passes.len g.N.TurnName.turn.sessions c.args.passes.items c.len-sessions.ensures c.args.passes.ok.0 c.requires.passes in
+    let at = c.work_at-door.ensures in
+    let first = are_first c.work_at-door.new.slots c.work_at-door.result.1.items c.len-sessions.result c.len.result g.M.DeskName.items n sessions c.requires.items (c.len.ensures ∙ c.work_at-door.result.1.ok.0)
+    at.as_many at.within at.left at.free at.in_place in
+    let taken = are_taken c.work_at-door.new.slots c.work_at-door.result.1.items c.len-sessions.result c.len.result n c.in-Ok.room.passes.items c.take_out.new.passes.items c.in-Ok.room.ends.items c.take_out.new.ends.items first
+    c.in-Ok.ensures.passes.0 c.in-Ok.ensures.ends.0 c.take_out.ensures.passes c.take_out.ensures.ends in
+    left_numbers c.work_at-door.new.slots c.work_at-door.result.1.items (length c.take_out.new.passes.items) (length (filled c.work_at-door.new.slots)) g.M.DeskName.items n taken.passes_many first.total c.requires.items at.left
 
 pub go_on-stand-requires-clause-room_for_passes : goal.go_on-stand-requires-clause-room_for_passes
 go_on-stand-requires-clause-room_for_passes g c =
     let n : ℕ = g.N.TurnName.turn.sessions in
-    let sessions : c.len-sessions.result ≡ n = c.len-sessions.ensures ∙ c.args.passes.ok.0 ∙ ap (λ (l : List PassValue). length l) c.requires.passes ∙ length-new n in
-    let slots = c.work_at-door.new.slots in
-    let left = c.work_at-door.result.1.items in
-    let t : ℕ = length (filled slots) in
-    let full = settled slots left g.M.DeskName.items c.work_at-door.ensures.as_many c.work_at-door.ensures.within c.work_at-door.ensures.left c.work_at-door.ensures.free in
-    let counts = count_is c.len-sessions.result c.len.result (length left) t g.M.DeskName.items n sessions c.requires.items (c.len.ensures ∙ c.work_at-door.result.1.ok.0) (left_many left t g.M.DeskName.items c.work_at-door.ensures.left) c.work_at-door.ensures.within in
-    let passes_are = taken_out (λ one. one.pass) slots c.in-Ok.room.passes.items c.take_out.new.passes.items (c.len-sessions.result - c.len.result) c.in-Ok.ensures.passes.0 counts.0 full.1 c.take_out.ensures.passes in
-    let ends_are = taken_out (λ one. one.end) slots c.in-Ok.room.ends.items c.take_out.new.ends.items (c.len-sessions.result - c.len.result) c.in-Ok.ensures.ends.0 counts.0 full.1 c.take_out.ensures.ends in
-    let passes_many : length c.take_out.new.passes.items ≡ t = ap (λ (l : List PassValue). length l) passes_are ∙ length-map (filled slots) (λ one. one.pass) in
-    let ends_many : length c.take_out.new.ends.items ≡ t = ap (λ l. length l) ends_are ∙ length-map (filled slots) (λ one. one.end) in
-    let total = counts.2 in let room = c.in-Ok.ensures.passes.1 in let same = c.take_out.ensures.passes_room in
-    omega (arith, total, room, same, sessions, passes_many)
+    let sessions = as_many_new c.len-sessions.result c.args.passes.len g.N.TurnName.turn.sessions c.args.passes.items c.len-sessions.ensures c.args.passes.ok.0 c.requires.passes in
+    let at = c.work_at-door.ensures in
+    let first = are_first c.work_at-door.new.slots c.work_at-door.result.1.items c.len-sessions.result c.len.result g.M.DeskName.items n sessions c.requires.items (c.len.ensures ∙ c.work_at-door.result.1.ok.0)
+    at.as_many at.within at.left at.free at.in_place in
+    let taken = are_taken c.work_at-door.new.slots c.work_at-door.result.1.items c.len-sessions.result c.len.result n c.in-Ok.room.passes.items c.take_out.new.passes.items c.in-Ok.room.ends.items c.take_out.new.ends.items first
+    c.in-Ok.ensures.passes.0 c.in-Ok.ensures.ends.0 c.take_out.ensures.passes c.take_out.ensures.ends in
+    room_for _ _ _ n c.len-sessions.result _ _ taken.passes_many first.total sessions c.in-Ok.ensures.passes.1 c.take_out.ensures.passes_room
 
 pub go_on-stand-requires-clause-room_for_ends : goal.go_on-stand-requires-clause-room_for_ends
 go_on-stand-requires-clause-room_for_ends g c =
     let n : ℕ = g.N.TurnName.turn.sessions in
-    let sessions : c.len-sessions.result ≡ n = c.len-sessions.ensures ∙ c.args.passes.ok.0 ∙ ap (λ (l : List PassValue). length l) c.requires.passes ∙ length-new n in
-    let slots = c.work_at-door.new.slots in
-    let left = c.work_at-door.result.1.items in
-    let t : ℕ = length (filled slots) in
-    let full = settled slots left g.M.DeskName.items c.work_at-door.ensures.as_many c.work_at-door.ensures.within c.work_at-door.ensures.left c.work_at-door.ensures.free in
-    let counts = count_is c.len-sessions.result c.len.result (length left) t g.M.DeskName.items n sessions c.requires.items (c.len.ensures ∙ c.work_at-door.result.1.ok.0) (left_many left t g.M.DeskName.items c.work_at-door.ensures.left) c.work_at-door.ensures.within in
-    let passes_are = taken_out (λ one. one.pass) slots c.in-Ok.room.passes.items c.take_out.new.passes.items (c.len-sessions.result - c.len.result) c.in-Ok.ensures.passes.0 counts.0 full.1 c.take_out.ensures.passes in
-    let ends_are = taken_out (λ one. one.end) slots c.in-Ok.room.ends.items c.take_out.new.ends.items (c.len-sessions.result - c.len.result) c.in-Ok.ensures.ends.0 counts.0 full.1 c.take_out.ensures.ends in
-    let passes_many : length c.take_out.new.passes.items ≡ t = ap (λ (l : List PassValue). length l) passes_are ∙ length-map (filled slots) (λ one. one.pass) in
-    let ends_many : length c.take_out.new.ends.items ≡ t = ap (λ l. length l) ends_are ∙ length-map (filled slots) (λ one. one.end) in
-    let total = counts.2 in let room = c.in-Ok.ensures.ends.1 in let same = c.take_out.ensures.ends_room in
-    omega (arith, total, room, same, sessions, passes_many)
+    let sessions = as_many_new c.len-sessions.result c.args.passes.len g.N.TurnName.turn.sessions c.args.passes.items c.len-sessions.ensures c.args.passes.ok.0 c.requires.passes in
+    let at = c.work_at-door.ensures in
+    let first = are_first c.work_at-door.new.slots c.work_at-door.result.1.items c.len-sessions.result c.len.result g.M.DeskName.items n sessions c.requires.items (c.len.ensures ∙ c.work_at-door.result.1.ok.0)
+    at.as_many at.within at.left at.free at.in_place in
+    let taken = are_taken c.work_at-door.new.slots c.work_at-door.result.1.items c.len-sessions.result c.len.result n c.in-Ok.room.passes.items c.take_out.new.passes.items c.in-Ok.room.ends.items c.take_out.new.ends.items first
+    c.in-Ok.ensures.passes.0 c.in-Ok.ensures.ends.0 c.take_out.ensures.passes c.take_out.ensures.ends in
+    room_for _ _ _ n c.len-sessions.result _ _ taken.passes_many first.total sessions c.in-Ok.ensures.ends.1 c.take_out.ensures.ends_room
 
 pub returns-clause-served : goal.returns-clause-served
 returns-clause-served g c =
     let n : ℕ = g.N.TurnName.turn.sessions in
-    let sessions : c.len-sessions.result ≡ n = c.len-sessions.ensures ∙ c.args.passes.ok.0 ∙ ap (λ (l : List PassValue). length l) c.requires.passes ∙ length-new n in
-    let slots = c.work_at-door.new.slots in
-    let left = c.work_at-door.result.1.items in
-    let t : ℕ = length (filled slots) in
-    let full = settled slots left g.M.DeskName.items c.work_at-door.ensures.as_many c.work_at-door.ensures.within c.work_at-door.ensures.left c.work_at-door.ensures.free in
-    let counts = count_is c.len-sessions.result c.len.result (length left) t g.M.DeskName.items n sessions c.requires.items (c.len.ensures ∙ c.work_at-door.result.1.ok.0) (left_many left t g.M.DeskName.items c.work_at-door.ensures.left) c.work_at-door.ensures.within in
-    let passes_are = taken_out (λ one. one.pass) slots c.in-Ok.room.passes.items c.take_out.new.passes.items (c.len-sessions.result - c.len.result) c.in-Ok.ensures.passes.0 counts.0 full.1 c.take_out.ensures.passes in
-    let ends_are = taken_out (λ one. one.end) slots c.in-Ok.room.ends.items c.take_out.new.ends.items (c.len-sessions.result - c.len.result) c.in-Ok.ensures.ends.0 counts.0 full.1 c.take_out.ensures.ends in
-    let passes_many : length c.take_out.new.passes.items ≡ t = ap (λ (l : List PassValue). length l) passes_are ∙ length-map (filled slots) (λ one. one.pass) in
-    let ends_many : length c.take_out.new.ends.items ≡ t = ap (λ l. length l) ends_are ∙ length-map (filled slots) (λ one. one.end) in
-    let first_ones = served_first (record {
+    let sessions = as_many_new c.len-sessions.result c.args.passes.len g.N.TurnName.turn.sessions c.args.passes.items c.len-sessions.ensures c.args.passes.ok.0 c.requires.passes in
+    let at = c.work_at-door.ensures in
+    let first = are_first c.work_at-door.new.slots c.work_at-door.result.1.items c.len-sessions.result c.len.result g.M.DeskName.items n sessions c.requires.items (c.len.ensures ∙ c.work_at-door.result.1.ok.0)
+    at.as_many at.within at.left at.free at.in_place in
+    let taken = are_taken c.work_at-door.new.slots c.work_at-door.result.1.items c.len-sessions.result c.len.result n c.in-Ok.room.passes.items c.take_out.new.passes.items c.in-Ok.room.ends.items c.take_out.new.ends.items first
+    c.in-Ok.ensures.passes.0 c.in-Ok.ensures.ends.0 c.take_out.ensures.passes c.take_out.ensures.ends in
+    let way = way_after c.work_at-door.new.slots (record {
       left = g.B.Link.Source.left;
       taken = g.B.Link.Sink.taken;
       unread = g.B.Link.Rest.Spent.unread;
@@ -142,39 +115,10 @@ returns-clause-served g c =
       failed_reads = g.B.Link.Rest.Spent.failed_reads;
       failed_writes = g.B.Link.Rest.Spent.failed_writes;
     })
-    g.N.StoreName.first g.N.TurnName.capacity c.args.cover.now.names c.args.graph.now.names g.M.DeskName.links (filled slots)
-    (in_order slots t (subst (λ (k : ℕ). t ≤ k) (sym c.work_at-door.ensures.as_many) c.work_at-door.ensures.within) c.work_at-door.ensures.in_place full.0 full.1) c.work_at-door.ensures.served in
-    let way = c.go_on-stand.ensures.goes_on g.M.DeskName.links g.M.DeskName.faults
-    (subst (λ (k : ℕ). AreServed (record {
-      left = g.B.Link.Source.left;
-      taken = g.B.Link.Sink.taken;
-      unread = g.B.Link.Rest.Spent.unread;
-      sent = g.B.Link.Rest.Spent.sent;
-      failed_reads = g.B.Link.Rest.Spent.failed_reads;
-      failed_writes = g.B.Link.Rest.Spent.failed_writes;
-    })
-    g.N.StoreName.first g.N.TurnName.capacity c.args.cover.now.names c.args.graph.now.names g.M.DeskName.links k c.take_out.new.passes.items c.take_out.new.ends.items) (sym passes_many)
-    (subst (λ (l : List PassValue). AreServed (record {
-      left = g.B.Link.Source.left;
-      taken = g.B.Link.Sink.taken;
-      unread = g.B.Link.Rest.Spent.unread;
-      sent = g.B.Link.Rest.Spent.sent;
-      failed_reads = g.B.Link.Rest.Spent.failed_reads;
-      failed_writes = g.B.Link.Rest.Spent.failed_writes;
-    })
-    g.N.StoreName.first g.N.TurnName.capacity c.args.cover.now.names c.args.graph.now.names g.M.DeskName.links t l c.take_out.new.ends.items) (sym passes_are)
-    (subst (λ (l : List (LinkEnd g.row.B-Link.Denot g.row.B-Link-Rest.Denot)). AreServed (record {
-      left = g.B.Link.Source.left;
-      taken = g.B.Link.Sink.taken;
-      unread = g.B.Link.Rest.Spent.unread;
-      sent = g.B.Link.Rest.Spent.sent;
-      failed_reads = g.B.Link.Rest.Spent.failed_reads;
-      failed_writes = g.B.Link.Rest.Spent.failed_writes;
-    })
-    g.N.StoreName.first g.N.TurnName.capacity c.args.cover.now.names c.args.graph.now.names g.M.DeskName.links t (map (λ one. one.pass) (filled slots)) l) (sym ends_are) first_ones)))
-    (subst (λ (k : ℕ). Stands g.B.Door.links g.B.Door.is_shut g.B.Door.faults g.M.DeskName.links g.M.DeskName.faults k c.work_at-door.result.2 c.work_at-door.result.0) (sym ends_many) c.work_at-door.ensures.stands)
-    (λ is. ends_many ∙ sym passes_many) in
-    let total : length c.take_out.new.passes.items + length left ≡ n = ap (λ (k : ℕ). k + length left) passes_many ∙ counts.2 in
+    g.N.StoreName.first g.N.TurnName.capacity c.args.cover.now.names c.args.graph.now.names g.B.Door.links g.B.Door.is_shut g.B.Door.faults g.M.DeskName.links g.M.DeskName.faults
+    c.work_at-door.result.1.items c.len-sessions.result c.len.result n c.take_out.new.passes.items c.take_out.new.ends.items c.work_at-door.result.2 c.work_at-door.result.0 first taken at.served at.stands in
+    let after = c.go_on-stand.ensures.goes_on g.M.DeskName.links g.M.DeskName.faults way.served way.stands way.still_open in
+    let total : length c.take_out.new.passes.items + length c.work_at-door.result.1.items ≡ n = ap (λ (k : ℕ). k + length c.work_at-door.result.1.items) taken.passes_many ∙ first.total in
     subst (λ (links : Option (List g.row.B-Link.Denot)). AreServed (record {
       left = g.B.Link.Source.left;
       taken = g.B.Link.Sink.taken;
@@ -192,22 +136,18 @@ returns-clause-served g c =
       failed_reads = g.B.Link.Rest.Spent.failed_reads;
       failed_writes = g.B.Link.Rest.Spent.failed_writes;
     })
-    g.N.StoreName.first g.N.TurnName.capacity c.args.cover.now.names c.args.graph.now.names g.M.DeskName.links k c.go_on-stand.new.passes.items c.go_on-stand.new.ends.items) total way.0)
+    g.N.StoreName.first g.N.TurnName.capacity c.args.cover.now.names c.args.graph.now.names g.M.DeskName.links k c.go_on-stand.new.passes.items c.go_on-stand.new.ends.items) total after.0)
 
 pub returns-clause-door : goal.returns-clause-door
 returns-clause-door g c =
     let n : ℕ = g.N.TurnName.turn.sessions in
-    let sessions : c.len-sessions.result ≡ n = c.len-sessions.ensures ∙ c.args.passes.ok.0 ∙ ap (λ (l : List PassValue). length l) c.requires.passes ∙ length-new n in
-    let slots = c.work_at-door.new.slots in
-    let left = c.work_at-door.result.1.items in
-    let t : ℕ = length (filled slots) in
-    let full = settled slots left g.M.DeskName.items c.work_at-door.ensures.as_many c.work_at-door.ensures.within c.work_at-door.ensures.left c.work_at-door.ensures.free in
-    let counts = count_is c.len-sessions.result c.len.result (length left) t g.M.DeskName.items n sessions c.requires.items (c.len.ensures ∙ c.work_at-door.result.1.ok.0) (left_many left t g.M.DeskName.items c.work_at-door.ensures.left) c.work_at-door.ensures.within in
-    let passes_are = taken_out (λ one. one.pass) slots c.in-Ok.room.passes.items c.take_out.new.passes.items (c.len-sessions.result - c.len.result) c.in-Ok.ensures.passes.0 counts.0 full.1 c.take_out.ensures.passes in
-    let ends_are = taken_out (λ one. one.end) slots c.in-Ok.room.ends.items c.take_out.new.ends.items (c.len-sessions.result - c.len.result) c.in-Ok.ensures.ends.0 counts.0 full.1 c.take_out.ensures.ends in
-    let passes_many : length c.take_out.new.passes.items ≡ t = ap (λ (l : List PassValue). length l) passes_are ∙ length-map (filled slots) (λ one. one.pass) in
-    let ends_many : length c.take_out.new.ends.items ≡ t = ap (λ l. length l) ends_are ∙ length-map (filled slots) (λ one. one.end) in
-    let first_ones = served_first (record {
+    let sessions = as_many_new c.len-sessions.result c.args.passes.len g.N.TurnName.turn.sessions c.args.passes.items c.len-sessions.ensures c.args.passes.ok.0 c.requires.passes in
+    let at = c.work_at-door.ensures in
+    let first = are_first c.work_at-door.new.slots c.work_at-door.result.1.items c.len-sessions.result c.len.result g.M.DeskName.items n sessions c.requires.items (c.len.ensures ∙ c.work_at-door.result.1.ok.0)
+    at.as_many at.within at.left at.free at.in_place in
+    let taken = are_taken c.work_at-door.new.slots c.work_at-door.result.1.items c.len-sessions.result c.len.result n c.in-Ok.room.passes.items c.take_out.new.passes.items c.in-Ok.room.ends.items c.take_out.new.ends.items first
+    c.in-Ok.ensures.passes.0 c.in-Ok.ensures.ends.0 c.take_out.ensures.passes c.take_out.ensures.ends in
+    let way = way_after c.work_at-door.new.slots (record {
       left = g.B.Link.Source.left;
       taken = g.B.Link.Sink.taken;
       unread = g.B.Link.Rest.Spent.unread;
@@ -215,45 +155,12 @@ returns-clause-door g c =
       failed_reads = g.B.Link.Rest.Spent.failed_reads;
       failed_writes = g.B.Link.Rest.Spent.failed_writes;
     })
-    g.N.StoreName.first g.N.TurnName.capacity c.args.cover.now.names c.args.graph.now.names g.M.DeskName.links (filled slots)
-    (in_order slots t (subst (λ (k : ℕ). t ≤ k) (sym c.work_at-door.ensures.as_many) c.work_at-door.ensures.within) c.work_at-door.ensures.in_place full.0 full.1) c.work_at-door.ensures.served in
-    let way = c.go_on-stand.ensures.goes_on g.M.DeskName.links g.M.DeskName.faults
-    (subst (λ (k : ℕ). AreServed (record {
-      left = g.B.Link.Source.left;
-      taken = g.B.Link.Sink.taken;
-      unread = g.B.Link.Rest.Spent.unread;
-      sent = g.B.Link.Rest.Spent.sent;
-      failed_reads = g.B.Link.Rest.Spent.failed_reads;
-      failed_writes = g.B.Link.Rest.Spent.failed_writes;
-    })
-    g.N.StoreName.first g.N.TurnName.capacity c.args.cover.now.names c.args.graph.now.names g.M.DeskName.links k c.take_out.new.passes.items c.take_out.new.ends.items) (sym passes_many)
-    (subst (λ (l : List PassValue). AreServed (record {
-      left = g.B.Link.Source.left;
-      taken = g.B.Link.Sink.taken;
-      unread = g.B.Link.Rest.Spent.unread;
-      sent = g.B.Link.Rest.Spent.sent;
-      failed_reads = g.B.Link.Rest.Spent.failed_reads;
-      failed_writes = g.B.Link.Rest.Spent.failed_writes;
-    })
-    g.N.StoreName.first g.N.TurnName.capacity c.args.cover.now.names c.args.graph.now.names g.M.DeskName.links t l c.take_out.new.ends.items) (sym passes_are)
-    (subst (λ (l : List (LinkEnd g.row.B-Link.Denot g.row.B-Link-Rest.Denot)). AreServed (record {
-      left = g.B.Link.Source.left;
-      taken = g.B.Link.Sink.taken;
-      unread = g.B.Link.Rest.Spent.unread;
-      sent = g.B.Link.Rest.Spent.sent;
-      failed_reads = g.B.Link.Rest.Spent.failed_reads;
-      failed_writes = g.B.Link.Rest.Spent.failed_writes;
-    })
-    g.N.StoreName.first g.N.TurnName.capacity c.args.cover.now.names c.args.graph.now.names g.M.DeskName.links t (map (λ one. one.pass) (filled slots)) l) (sym ends_are) first_ones)))
-    (subst (λ (k : ℕ). Stands g.B.Door.links g.B.Door.is_shut g.B.Door.faults g.M.DeskName.links g.M.DeskName.faults k c.work_at-door.result.2 c.work_at-door.result.0) (sym ends_many) c.work_at-door.ensures.stands)
-    (λ is. ends_many ∙ sym passes_many) in
-    let total : length c.take_out.new.passes.items + length left ≡ n = ap (λ (k : ℕ). k + length left) passes_many ∙ counts.2 in
-    record {
-      left = subst (λ (links : Option (List g.row.B-Link.Denot)). AreAllButFirst links (length c.go_on-stand.new.ends.items) (g.B.Door.links c.go_on-stand.new.door)) (sym c.requires.links) way.1.left;
-      all = λ not_failed had. stands_so c.go_on-stand.result (c.has_failed.ensures.not_failed not_failed) (λ is. way.2 is ∙ total) way.1.shut;
-      failed = λ failed. subst (λ (k : ℕ). Rose k (g.B.Door.faults c.go_on-stand.new.door)) (sym c.requires.faults) (way.1.failed (c.has_failed.ensures.failed failed));
-      unfailed = λ not_failed. way.1.unfailed (c.has_failed.ensures.not_failed not_failed) ∙ sym c.requires.faults;
-      never_falls = subst (λ (k : ℕ). k ≤ g.B.Door.faults c.go_on-stand.new.door) (sym c.requires.faults) way.1.never_falls;
-      wanted = λ wanted. inr (subst (Any (λ one. one.end.cause ≡ NoMemory)) c.deref.ensures.value (c.any_wanted-no_memory.ensures.some wanted));
-      had = λ had. subst (All (λ one. one.end.cause ≢ NoMemory)) c.deref.ensures.value (c.any_wanted-no_memory.ensures.none had);
-    }
+    g.N.StoreName.first g.N.TurnName.capacity c.args.cover.now.names c.args.graph.now.names g.B.Door.links g.B.Door.is_shut g.B.Door.faults g.M.DeskName.links g.M.DeskName.faults
+    c.work_at-door.result.1.items c.len-sessions.result c.len.result n c.take_out.new.passes.items c.take_out.new.ends.items c.work_at-door.result.2 c.work_at-door.result.0 first taken at.served at.stands in
+    let after = c.go_on-stand.ensures.goes_on g.M.DeskName.links g.M.DeskName.faults way.served way.stands way.still_open in
+    let total : length c.take_out.new.passes.items + length c.work_at-door.result.1.items ≡ n = ap (λ (k : ℕ). k + length c.work_at-door.result.1.items) taken.passes_many ∙ first.total in
+    door_ends g.B.Door.links g.B.Door.is_shut g.B.Door.faults c.args.door c.go_on-stand.new.door g.M.DeskName.links g.M.DeskName.faults n c.go_on-stand.new.ends.items
+    c.go_on-stand.result c.has_failed.result c.any_wanted-no_memory.result c.requires.links c.requires.faults after.1 (λ is. after.2 is ∙ total)
+    c.has_failed.ensures.failed c.has_failed.ensures.not_failed
+    (λ wanted. subst (Any (λ one. one.end.cause ≡ NoMemory)) c.deref.ensures.value (c.any_wanted-no_memory.ensures.some wanted))
+    (λ had. subst (All (λ one. one.end.cause ≢ NoMemory)) c.deref.ensures.value (c.any_wanted-no_memory.ensures.none had))
