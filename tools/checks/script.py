@@ -22,8 +22,11 @@ all)
         echo "== $crate"
     done
     ;;
+lib)
+    echo "rt: chose --jobs 2 for dcr_app"
+    ;;
 run)
-    echo "rt: chose --jobs 4 for dcr_app" >&2
+    echo "rt: chose --jobs 4 for dcr" >&2
     [ "${FAILS:-}" != link ] || exit 3
     mkdir -p out
     printf '#!/bin/sh\\n[ "$1" = run ] || exit 2\\n[ "${2:-}" != status ] || exit 8\\necho "%s $*"\\ncat\\n' "$(cat src/main.rt)" >out/dcr.linking
@@ -97,9 +100,9 @@ def check_the_first_call_builds_and_later_ones_run():
         want_ran(told)
         want(b"of 4 crates, last dcr_" in told[2] or b"of 4 crates, now dcr_" in told[2] and b"so far" in told[2], "it tells too little: %s" % told[2])
         want(all(line.startswith(b"dcr: ") for line in told[2].splitlines()), "another program speaks: %s" % told[2])
-        want(it.calls() == ["all", "run"], str(it.calls()))
+        want(it.calls() == ["all", "lib", "run"], str(it.calls()))
         want(it.dcr("run") == (0, b"first run\ninput", b""), "the second call isn't silent")
-        want(it.calls() == ["all", "run"], str(it.calls()))
+        want(it.calls() == ["all", "lib", "run"], str(it.calls()))
 
 
 def check_on_a_terminal_one_line_is_written_anew():
@@ -155,7 +158,7 @@ def check_from_anywhere():
 
 def check_a_failed_build_runs_nothing():
     with checkout() as it:
-        for fails, log in [("dcr_set", b"dcr_set: not proved"), ("link", b"dcr_app"), ("report", b"first.report")]:
+        for fails, log in [("dcr_set", b"dcr_set: not proved"), ("link", b"for dcr"), ("report", b"first.report")]:
             status, wrote, said = it.dcr("run", FAILS=fails)
             want((status, wrote) == (FAILED, b"") and log in said, "%s: %s" % (fails, (status, wrote, said)))
         want(it.dcr("run", FAILS="link")[0] == FAILED, "the second time")
@@ -211,7 +214,7 @@ def check_two_calls_at_once_build_once():
         for ran in both:
             wrote, said = ran.communicate(b"input", timeout=300)
             want_ran((ran.returncode, wrote, said))
-        want(it.calls() == ["all", "run"], str(it.calls()))
+        want(it.calls() == ["all", "lib", "run"], str(it.calls()))
 
 
 def check_a_copy_runs_what_it_has():
@@ -221,7 +224,7 @@ def check_a_copy_runs_what_it_has():
         os.chmod(other + "/copy/dcr", 0o755)
         os.chmod(other + "/copy/crates/dcr/out/dcr", 0o755)
         want_ran(it.dcr("run", by=other + "/copy/dcr"))
-        want(it.calls() == ["all", "run"], "a copy is built again")
+        want(it.calls() == ["all", "lib", "run"], "a copy is built again")
         # Copied after a change, with times that say nothing of it.
         it.change("second")
         shutil.copytree(it.top, other + "/second", copy_function=shutil.copyfile)
