@@ -79,7 +79,7 @@ settled_exec c turn i e fronts found named is_call true owned are is =
     settled_one c turn (Exec i e) fronts found named is_call is i refl
     (subst (λ (sites : List ℕ). Contains sites i) (sym are) (owner_hears c turn i e named is_call.0 is_call.1 owned))
 settled_exec c turn i e fronts found named is_call false owned are is = λ J calls none.
-    is.nowhere (no_fronts fronts are) ∙ sym (ap (λ (b : Bool). cond b (outcome_of (cause c.rules (marking_after c J) e)) NotHere) owned)
+    is.nowhere (no_fronts fronts are) owned ∙ sym (ap (λ (b : Bool). cond b (outcome_of (cause c.rules (marking_after c J) e)) NotHere) owned)
 
 -- what was found at all sites of a call is the graph's answer
 settled_by_all : (c : ClusterId) (turn : TurnId) (call : Call) (fronts : List FrontValue) (found : Outcome) → IsNamed c turn → IsCall c call
@@ -105,18 +105,18 @@ event_is : (i e event : ℕ) (outcome : Outcome) → event_done (Exec i e) outco
 event_is i e event Done is = cc
 event_is i e event outcome is = absurd cc
 
-hear_exec : (c : ClusterId) (turn : TurnId) (i e : ℕ) (fronts : List FrontValue) (found : Outcome) → (owned : Bool) → sites_of fronts ≡ cond owned (participants_of turn.alphabets e) []
+hear_exec : (c : ClusterId) (turn : TurnId) (i e : ℕ) (fronts : List FrontValue) (found : Outcome) → (owned : Bool) → has (row c.owned i) e ≡ owned → sites_of fronts ≡ cond owned (participants_of turn.alphabets e) []
     → Found c (Exec i e) fronts found → AllHear turn.alphabets (sites_of fronts) (Exec i e) found
-hear_exec c turn i e fronts found true are is = λ event done k hears.
+hear_exec c turn i e fronts found true owned are is = λ event done k hears.
     subst (λ (sites : List ℕ). Contains sites k) (sym are)
     (participates turn.alphabets e k (ap (λ (a : ℕ). has (slice_index_or turn.alphabets k []) a) (event_is i e event found done) ∙ hears))
-hear_exec c turn i e fronts found false are is = λ event done k hears.
-    absurd (let none : None ≡ Some event = ap (event_done (Exec i e)) (sym (is.nowhere (no_fronts fronts are))) ∙ done in cc)
+hear_exec c turn i e fronts found false owned are is = λ event done k hears.
+    absurd (let none : None ≡ Some event = ap (event_done (Exec i e)) (sym (is.nowhere (no_fronts fronts are) owned)) ∙ done in cc)
 
 -- and all that must hear of it are among them
 hear_by_all : (c : ClusterId) (turn : TurnId) (call : Call) (fronts : List FrontValue) (found : Outcome) → IsNamed c turn → IsCall c call
     → sites_of fronts ≡ sites_for c turn call → Found c call fronts found → AllHear turn.alphabets (sites_of fronts) call found
-hear_by_all c turn (Exec i e) fronts found named is_call are is = hear_exec c turn i e fronts found (has (row c.owned i) e) are is
+hear_by_all c turn (Exec i e) fronts found named is_call are is = hear_exec c turn i e fronts found (has (row c.owned i) e) refl are is
 hear_by_all c turn (Look i) fronts found named is_call are is = λ event done k hears. absurd cc
 hear_by_all c turn (Enabled i) fronts found named is_call are is = λ event done k hears. absurd cc
 hear_by_all c turn Accepting fronts found named is_call are is = λ event done k hears. absurd cc
@@ -153,7 +153,7 @@ module _ (c : ClusterId) (call : Call) (fronts : List FrontValue) (front : Front
   -- the site that is asked
   pub asked_here : asked call ≡ Some front.site → result ≡ answer_after c front.front call → Found c call (fronts ++ front ∷ []) result
   asked_here here answered = record {
-    nowhere = λ none. absurd (not_none fronts front none);
+    nowhere = λ none stranger. absurd (not_none fronts front none);
     one = λ i is there. record { front = front; among = Contains-push fronts front; site = cc; answer = answered };
     all = λ none. absurd cc;
   }
@@ -168,7 +168,7 @@ module _ (c : ClusterId) (call : Call) (fronts : List FrontValue) (front : Front
   -- another site
   pub asked_elsewhere : (j : ℕ) → asked call ≡ Some j → ¬ (j ≡ front.site) → Found c call fronts found → Found c call (fronts ++ front ∷ []) found
   asked_elsewhere j at other is = record {
-    nowhere = λ none. absurd (not_none fronts front none);
+    nowhere = λ none stranger. absurd (not_none fronts front none);
     one = λ i is_i there.
         at_another i is_i (λ same. other (let e : j ≡ i = cc in e ∙ same)) is
         (Contains-push_cases (sites_of fronts) front.site i (subst (λ (sites : List ℕ). Contains sites i) (sites_more fronts front) there));
@@ -181,7 +181,7 @@ module _ (c : ClusterId) (call : Call) (fronts : List FrontValue) (front : Front
   asked_all none sooner is =
       let waits_of : FrontValue → Option ℕ = λ f. owned_waits c.rules (row c.owned f.site) (marking_after c f.front) in
       record {
-        nowhere = λ no_front. absurd (not_none fronts front no_front);
+        nowhere = λ no_front stranger. absurd (not_none fronts front no_front);
         one = λ i at there. absurd cc;
         all = λ _.
             sooner (waits_by c fronts) (is.all none)

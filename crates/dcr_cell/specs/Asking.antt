@@ -1,5 +1,5 @@
 -- Which sites a call asks, and what was found at those whose locks are held.
-use Rattle.std.specs.Prelude.{◌≡◌, ◌⊎◌, ℕ, List, [], ◌∷◌, length, map, Some, None, if◌then◌else◌}
+use Rattle.std.specs.Prelude.{◌≡◌, ◌⊎◌, false, ℕ, List, [], ◌∷◌, length, map, Some, None, if◌then◌else◌}
 use Rattle.std.specs.List.{All, Contains, range_with_len}
 use Rattle.dcr_set.specs.EventSet.{has}
 use Rattle.dcr_graph.specs.Rows.{row}
@@ -9,7 +9,7 @@ use Rattle.dcr_journal.specs.declared.call.Call.{Call}
 use Rattle.dcr_journal.specs.declared.call.Call.TheVariants.{Exec, Look, Enabled, Accepting}
 use Rattle.dcr_journal.specs.declared.call.Entry.{Entry}
 use Rattle.dcr_journal.specs.declared.call.Outcome.{Outcome}
-use Rattle.dcr_journal.specs.declared.call.Outcome.TheVariants.{NotHere, AllDone}
+use Rattle.dcr_journal.specs.declared.call.Outcome.TheVariants.{NotHere}
 use Rattle.dcr_proj.specs.NetworkValue.{participants_of}
 use Rattle.dcr_turn.specs.FrontValue.{FrontValue, HasMissedNone}
 use Rattle.dcr_turn.specs.TurnId.{TurnId}
@@ -41,12 +41,12 @@ AreEnough c turn call sites found = (sites ≡ sites_for c turn call) ⊎ AreAsk
 abbrev pub sites_of : List FrontValue → List ℕ
 sites_of fronts = map (λ (f : FrontValue). f.site) fronts
 
--- what a call is answered where no site was asked
-abbrev pub unasked : Call → Outcome
-unasked (Exec i e) = NotHere
-unasked (Look i) = NotHere
-unasked (Enabled i) = NotHere
-unasked Accepting = AllDone
+-- an execution by a site that doesn't own the event, for which no site is asked
+abbrev pub IsByAStranger : ClusterId → Call → Type 0
+IsByAStranger c (Exec i e) = has (row c.owned i) e ≡ false
+IsByAStranger c (Look i) = ⊥
+IsByAStranger c (Enabled i) = ⊥
+IsByAStranger c Accepting = ⊥
 
 -- a front of this site among these, after whose entries the graph gives this answer
 pub record FoundAt (c : ClusterId) (call : Call) (fronts : List FrontValue) (i : ℕ) (outcome : Outcome) : Type 0 where
@@ -57,7 +57,7 @@ pub record FoundAt (c : ClusterId) (call : Call) (fronts : List FrontValue) (i :
 
 -- what was found at the sites of these fronts, each asked at the entries that its front has seen
 pub record Found (c : ClusterId) (call : Call) (fronts : List FrontValue) (outcome : Outcome) : Type 0 where
-  pub nowhere : fronts ≡ [] → outcome ≡ unasked call
+  pub nowhere : fronts ≡ [] → IsByAStranger c call → outcome ≡ NotHere
   pub one : (i : ℕ) → asked call ≡ Some i → Contains (sites_of fronts) i → FoundAt c call fronts i outcome
   pub all : asked call ≡ None → outcome ≡ verdict_of (waits_by c fronts)
 

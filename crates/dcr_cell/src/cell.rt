@@ -27,12 +27,15 @@ impl<N: ClusterName> Placed for Cell<N> {
 
 impl<N: ClusterName> Cell<N> {
     ghost use Rattle.std.specs.Prelude.{◌≡◌, ◌≢◌, ◌<◌, ℕ, true, false, List, [], ◌∷◌, ◌++◌, length, Some};
+    ghost use Rattle.dcr_graph.specs.Rows.{row};
     ghost use Rattle.dcr_journal.specs.declared.call.Call.TheVariants.{Exec};
+    ghost use Rattle.dcr_journal.specs.declared.call.Entry.{Entry};
     ghost use Rattle.dcr_journal.specs.declared.call.Outcome.TheVariants.{Done};
     ghost use Rattle.dcr_turn.specs.FrontValue.{FrontValue};
     ghost use Rattle.dcr_cell.specs.Asking.{Found};
     ghost use Rattle.dcr_cell.specs.CellStands.{CellStands};
-    ghost use Rattle.dcr_cell.specs.ClusterId.{IsNamed, IsCall, answer_after};
+    ghost use Rattle.dcr_site.specs.Seen.{StandsAt};
+    ghost use Rattle.dcr_cell.specs.ClusterId.{IsNamed, IsCall, answer_after, marking_after};
     ghost use Rattle.dcr_cell.specs.Laws.{asked};
 
     /// What was found of a call becomes what is found where this site is asked besides those that found it. It answers
@@ -84,25 +87,21 @@ impl<N: ClusterName> Cell<N> {
     {
         match call {
             Call::Exec(_, e) => decided(self.site.decide(*e), told),
-            _ => self.show(call, told),
+            _ => Self::show(&self.site, self.front.site(), call, told),
         }
     }
 
-    // The same of a call that is no execution. It stands by itself, since room for sets of events is cleared where it
-    // begins, which executions need not wait for.
+    // The same of a call that is no execution, of the site alone, which stands after some entries. It stands by itself,
+    // since room for sets of events is cleared where it begins, which executions need not wait for.
     #[inline(never)]
-    fn show(&self, call: &Call, told: &mut Outcome)
-        requires named { IsNamed N.cluster N.turn }
-        requires call { IsCall N.cluster call.now }
-        requires asked { asked call.now ≡ Some self.now.front.site }
-        requires other { (i e : ℕ) → call.now ≢ Exec i e }
-        requires site { self.now.front.site < length N.cluster.owned }
-        requires stands { CellStands N.cluster self.now.front.site self.now.site.value self.now.front }
-        ensures { told.new ≡ answer_after N.cluster self.now.front.front call.now }
+    fn show(site: &Site, i: SiteId, call: &Call, told: &mut Outcome)
+        requires asked { asked call.now ≡ Some i }
+        requires other { (j e : ℕ) → call.now ≢ Exec j e }
+        ensures { (J : List Entry) → StandsAt N.cluster.rules (row N.cluster.owned i) (marking_after N.cluster J) site.now → told.new ≡ answer_after N.cluster J call.now }
     {
         match call {
-            Call::Look(_) => *told = Outcome::Marks(self.site.mark()),
-            Call::Enabled(_) => *told = Outcome::Can(self.site.can()),
+            Call::Look(_) => *told = Outcome::Marks(site.mark()),
+            Call::Enabled(_) => *told = Outcome::Can(site.can()),
             Call::Exec(..) | Call::Accepting => unreachable!(),
         }
     }

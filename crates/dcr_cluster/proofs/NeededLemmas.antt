@@ -1,6 +1,6 @@
 -- The sites whose locks a call takes.
-use Rattle.std.proofs.Common.{◌≡◌, ◌⊎◌, inl, inr, ℕ, zero, suc, ◌+◌, ◌<◌, List, [], ◌∷◌, length, sym, ap, ◌∙◌, subst, arith}
-use Rattle.std.specs.Prelude.{slice_index_or}
+use Rattle.std.proofs.Common.{◌≡◌, ◌⊎◌, inl, inr, Bool, ℕ, zero, suc, ◌+◌, ◌<◌, List, [], ◌∷◌, length, sym, refl, ap, ◌∙◌, subst, arith}
+use Rattle.std.specs.Prelude.{slice_index_or, if◌then◌else◌}
 use Rattle.std.specs.List.{All, range_with_len}
 use Rattle.std.proofs.lemmas.List.FromFn.{length-range_with_len, get_or-range_with_len}
 use Rattle.dcr_set.specs.EventSet.{Set}
@@ -8,12 +8,14 @@ use Rattle.dcr_set.proofs.SetLemmas.{length-those}
 use Rattle.dcr_graph.specs.Projection.{in_alphabet}
 use Rattle.dcr_graph.specs.Rows.{row}
 use Rattle.dcr_journal.specs.declared.call.Call.{Call}
-use Rattle.dcr_journal.specs.declared.call.Call.TheVariants.{Exec, Look, Enabled}
+use Rattle.dcr_journal.specs.declared.call.Call.TheVariants.{Exec, Look, Enabled, Accepting}
+use Rattle.dcr_journal.specs.declared.call.Outcome.{Outcome}
+use Rattle.dcr_journal.specs.declared.call.Outcome.TheVariants.{NotHere, AllDone}
 use Rattle.dcr_proj.specs.CoverValue.{atoms_of}
 use Rattle.dcr_proj.specs.NetworkValue.{participants_of}
 use Rattle.dcr_proj.proofs.NetworkLemmas.{participants_below}
 use Rattle.dcr_turn.specs.TurnId.{TurnId}
-use Rattle.dcr_cell.specs.Asking.{sites_for}
+use Rattle.dcr_cell.specs.Asking.{sites_for, Found}
 use Rattle.dcr_cell.specs.ClusterId.{ClusterId, IsNamed, IsCall}
 use Rattle.dcr_cell.proofs.AskLemmas.{as_many_sites}
 use Rattle.dcr_cell.proofs.DecisionLemmas.{alphabet_at}
@@ -70,3 +72,28 @@ one_all n i sites are within = subst (All (λ k. k < n)) (sym are) (λ k d below
     first : (k d : ℕ) → k < 1 → slice_index_or (i ∷ []) k d < n
     first zero d below = within
     first (suc k) d below = absurd (omega arith)
+
+-- ---- what is found before a site was asked
+
+pub found_nowhere : (c : ClusterId) (turn : TurnId) (call : Call) (sites : List ℕ) (found : Outcome) → sites ≡ sites_for c turn call
+    → (call ≡ Accepting → found ≡ AllDone) → ((i e : ℕ) → call ≡ Exec i e → sites ≡ [] → found ≡ NotHere) → Found c call [] found
+found_nowhere c turn (Exec i e) sites found are all nowhere = record {
+  nowhere = λ none stranger. nowhere i e refl (are ∙ ap (λ (b : Bool). if b then participants_of turn.alphabets e else []) stranger);
+  one = λ j at there. absurd (let below = there.1 in omega arith);
+  all = λ none. absurd cc;
+}
+found_nowhere c turn (Look i) sites found are all nowhere = record {
+  nowhere = λ none stranger. absurd stranger;
+  one = λ j at there. absurd (let below = there.1 in omega arith);
+  all = λ none. absurd cc;
+}
+found_nowhere c turn (Enabled i) sites found are all nowhere = record {
+  nowhere = λ none stranger. absurd stranger;
+  one = λ j at there. absurd (let below = there.1 in omega arith);
+  all = λ none. absurd cc;
+}
+found_nowhere c turn Accepting sites found are all nowhere = record {
+  nowhere = λ none stranger. absurd stranger;
+  one = λ j at there. absurd cc;
+  all = λ none. all refl;
+}

@@ -1,7 +1,9 @@
-ghost use Rattle.std.specs.Prelude.{◌≡◌, List, [], ◌++◌, length, IfOk, IfErr, OnOk};
+ghost use Rattle.std.specs.Prelude.{◌≡◌, ℕ, List, [], ◌++◌, length, IfOk, IfErr, OnOk};
 ghost use Rattle.std.specs.List.{All};
+ghost use Rattle.dcr_journal.specs.declared.call.Call.TheVariants.{Exec, Accepting};
 ghost use Rattle.dcr_journal.specs.declared.call.Entry.{Entry};
-ghost use Rattle.dcr_cell.specs.Asking.{AreEnough, sites_for, sites_of, unasked, Found};
+ghost use Rattle.dcr_journal.specs.declared.call.Outcome.TheVariants.{NotHere, AllDone};
+ghost use Rattle.dcr_cell.specs.Asking.{AreEnough, sites_for, sites_of, Found};
 ghost use Rattle.dcr_cell.specs.ClusterId.{IsCall};
 ghost use Rattle.dcr_cluster.specs.Calls.{AnsweredAfter, HaltedAfter, Made, Tried, done_by, ending};
 
@@ -54,7 +56,6 @@ impl<D: Disk, G: Gate, N: StoreName<D>> Cluster<D, G, N> {
         ensures halted { IfErr result (HaltedAfter N.cluster N.first N.capacity pass.new.front pass.old pass.new) }
     {
         let mut fronts = self.turn.row();
-        unask(call, told);
         self.make(rt, pass, &mut fronts, call, told)
     }
 
@@ -69,7 +70,6 @@ impl<D: Disk, G: Gate, N: StoreName<D>> Cluster<D, G, N> {
     ) -> Result<(), Halt>
         requires call { IsCall N.cluster call.now }
         requires none { fronts.old ≡ [] }
-        requires unasked { found.old ≡ unasked call.now }
         ensures { Made N.cluster N.first N.capacity N.turn pass.old pass.new fronts.old fronts.new call.now (ending found.new result) }
     {
         let needed = self.needed(call);
@@ -78,7 +78,10 @@ impl<D: Disk, G: Gate, N: StoreName<D>> Cluster<D, G, N> {
                 return ended;
             }
         }
-        self.gather(rt, pass, fronts, call, needed, found)
+        unask(call, needed, found);
+        let mut ended = Ok(());
+        self.gather(rt, pass, fronts, call, needed, found, &mut ended);
+        ended
     }
 
     // The sites whose locks the call takes.
@@ -112,7 +115,6 @@ impl<D: Disk, G: Gate, N: StoreName<D>> Cluster<D, G, N> {
     ) -> Option<Result<(), Halt>>
         requires call { IsCall N.cluster call.now }
         requires none { fronts.old ≡ [] }
-        requires unasked { found.old ≡ unasked call.now }
         ensures { Tried N.cluster N.first N.capacity N.turn pass.old pass.new fronts.old fronts.new call.now found.old found.new result }
     {
         let Call::Exec(first, e) = call else {
@@ -133,7 +135,7 @@ impl<D: Disk, G: Gate, N: StoreName<D>> Cluster<D, G, N> {
 
     // Takes the locks of the sites that are left, one after the other, and asks each; makes the call; and gives the
     // locks back, the last one first. What was found stands in one place on the way down, and what the call is told on
-    // the way back, so that no outcome is handed from one lock to the next.
+    // the way back, and so does how it has ended, so that neither is handed from one lock to the next.
     fn gather<R: Wait>(
         &self,
         rt: &R,
@@ -142,27 +144,28 @@ impl<D: Disk, G: Gate, N: StoreName<D>> Cluster<D, G, N> {
         call: &Call,
         left: &[SiteId],
         found: &mut Outcome,
-    ) -> Result<(), Halt>
+        ended: &mut Result<(), Halt>,
+    )
         requires call { IsCall N.cluster call.now }
         requires sites { sites_of fronts.old ++ left.now ≡ sites_for N.cluster N.turn call.now }
         requires within { All (λ i. i < length N.cluster.owned) left.now }
         requires found { Found N.cluster call.now fronts.old found.old }
-        ensures { Made N.cluster N.first N.capacity N.turn pass.old pass.new fronts.old fronts.new call.now (ending found.new result) }
+        ensures { Made N.cluster N.first N.capacity N.turn pass.old pass.new fronts.old fronts.new call.now (ending found.new ended.new) }
     {
         let Some((first, rest)) = left.split_first() else {
-            return self.commit(rt, pass, fronts, call, found);
+            *ended = self.commit(rt, pass, fronts, call, found);
+            return;
         };
         let (grip, cell) = self.cells.lock(rt, first.0).split();
         cell.ask(call, found);
         let Cell { mut site, front } = cell;
         self.turn.put_on(fronts, front);
-        let ended = self.gather(rt, pass, fronts, call, rest, found);
+        self.gather(rt, pass, fronts, call, rest, found, ended);
         let front = self.turn.take_off(fronts, *first, pass);
-        if let Some(e) = done_by(call, found, &ended) {
+        if let Some(e) = done_by(call, found, ended) {
             site.apply(e);
         }
         grip.join(Cell { site, front }).unlock();
-        ended
     }
 
     // Comes by the gate, takes the journal's lock and makes the entry.
@@ -188,13 +191,16 @@ impl<D: Disk, G: Gate, N: StoreName<D>> Cluster<D, G, N> {
     }
 }
 
-// Makes a value what a call is answered where no site was asked.
-fn unask(call: &Call, told: &mut Outcome)
-    ensures { told.new ≡ unasked call.now }
+// Makes a value what is found before a site was asked, where that is told: a verdict without sites, and where there is no
+// site to ask that it isn't there. Of another call, what the asked site answers takes its place.
+fn unask(call: &Call, sites: &[SiteId], found: &mut Outcome)
+    ensures all { call.now ≡ Accepting → found.new ≡ AllDone }
+    ensures nowhere { (i e : ℕ) → call.now ≡ Exec i e → sites.now ≡ [] → found.new ≡ NotHere }
 {
-    match call {
-        Call::Accepting => *told = Outcome::AllDone,
-        _ => *told = Outcome::NotHere,
+    if let Call::Accepting = call {
+        *found = Outcome::AllDone;
+    } else if sites.is_empty() {
+        *found = Outcome::NotHere;
     }
 }
 

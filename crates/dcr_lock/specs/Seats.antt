@@ -1,5 +1,5 @@
 -- What a seat of a row's table holds between two calls.
-use Rattle.std.specs.Prelude.{ℕ, ◌<◌, [], ◌∷◌, Option, None}
+use Rattle.std.specs.Prelude.{◌≡◌, ℕ, ◌<◌, [], ◌∷◌, Option, Some, None}
 use Rattle.atomic_table.specs.Table.{Me}
 use Rattle.atomic_table.specs.Seated.{TableId}
 use Rattle.dcr_lock.specs.declared.steps.SeatView.{SeatView}
@@ -16,3 +16,7 @@ idle empty = (knows [] empty, [])
 -- the seat holds the place, and its slot is out with it, empty
 abbrev pub holding : {T : Type 0} → ℕ → ℕ → Me (Option T) SeatView
 holding place empty = (knows (place ∷ []) empty, (place, None) ∷ [])
+
+-- the seat holds the place, and its slot is out with it, with a value that belongs there
+abbrev pub HoldsValue : {T : Type 0} → (ℕ → T → Type 0) → ℕ → ℕ → Me (Option T) SeatView → Type 0
+HoldsValue belongs place empty me = (value : _) × belongs place value × (me ≡ (knows (place ∷ []) empty, (place, Some value) ∷ []))

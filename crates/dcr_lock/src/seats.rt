@@ -1,6 +1,6 @@
 //! What a seat does at a place: it takes what stands there, puts a value back, or leaves it empty.
-ghost use Rattle.std.specs.Prelude.{◌≡◌, IfOk, OnErr, OnOk};
-ghost use Rattle.dcr_lock.specs.Seats.{HasPlace, holding, idle};
+ghost use Rattle.std.specs.Prelude.{◌≡◌};
+ghost use Rattle.dcr_lock.specs.Seats.{HasPlace, HoldsValue, holding, idle};
 ghost use Rattle.dcr_lock.specs.Steps.{empty_then};
 
 use crate::Placed;
@@ -23,53 +23,43 @@ pub(crate) fn take<T: Placed, R: Wait>(
     ensures same { (seat.new.table_id ≡ seat.old.table_id) × (seat.new.id ≡ seat.old.id) }
     ensures holds { seat.new.me ≡ holding place seat.old.me.0.empty }
 {
-    match try_take(shared, seat, place) {
-        Ok(value) => value,
-        Err(found) => wait_and_take(shared, waiters, rt, seat, place, found),
+    let found = shared.compare_exchange::<Take>(seat, place as usize, FREE, TAKEN);
+    if found == FREE {
+        return take_out(shared, seat, place);
     }
+    wait_for(shared, waiters, rt, seat, place, found as u32);
+    take_out(shared, seat, place)
 }
 
-// Takes the value of a place that is free, as `take` does. Else the seat stays as it was, and the answer is the word that
-// stood there.
-fn try_take<T: Placed>(
-    shared: &SharedPlaces<T>,
-    seat: &mut PlaceSeat<T>,
-    place: u16,
-) -> Result<T, u32>
+// Takes the value out of the slot of the place that the seat holds.
+fn take_out<T: Placed>(shared: &SharedPlaces<T>, seat: &mut PlaceSeat<T>, place: u16) -> T
     requires row { seat.old.table_id ≡ shared.now.table_id }
-    requires place { HasPlace shared.now.table_id place }
-    requires idle { seat.old.me ≡ idle seat.old.me.0.empty }
-    ensures belongs { IfOk result (T.belongs place) }
+    requires holds { HoldsValue T.belongs place seat.old.me.0.empty seat.old.me }
+    ensures belongs { T.belongs place result }
     ensures same { (seat.new.table_id ≡ seat.old.table_id) × (seat.new.id ≡ seat.old.id) }
-    ensures holds { OnOk result (seat.new.me ≡ holding place seat.old.me.0.empty) }
-    ensures missed { OnErr result (seat.new.me ≡ seat.old.me) }
+    ensures holds { seat.new.me ≡ holding place seat.old.me.0.empty }
 {
-    let at = place as usize;
-    let found = shared.compare_exchange::<Take>(seat, at, FREE, TAKEN);
-    if found != FREE {
-        return Err(found as u32);
-    }
-    let stood = shared.exchange(seat, at, None);
+    let stood = shared.exchange(seat, place as usize, None);
     let Some(value) = stood else { unreachable!() };
-    Ok(value)
+    value
 }
 
-// The same where this word stood at the place. It stands by itself, so that a place that is free is taken in few steps.
+// Waits until a place at which this word stood is free, and holds it; its value stays in the slot. It stands by itself, and
+// hands on no value, so that a place that is free is taken in few steps.
 #[inline(never)]
-fn wait_and_take<T: Placed, R: Wait>(
+fn wait_for<T: Placed, R: Wait>(
     shared: &SharedPlaces<T>,
     waiters: &Waiters,
     rt: &R,
     seat: &mut PlaceSeat<T>,
     place: u16,
     stood: u32,
-) -> T
+)
     requires row { seat.old.table_id ≡ shared.now.table_id }
     requires place { HasPlace shared.now.table_id place }
     requires idle { seat.old.me ≡ idle seat.old.me.0.empty }
-    ensures belongs { T.belongs place result }
     ensures same { (seat.new.table_id ≡ seat.old.table_id) × (seat.new.id ≡ seat.old.id) }
-    ensures holds { seat.new.me ≡ holding place seat.old.me.0.empty }
+    ensures holds { HoldsValue T.belongs place seat.old.me.0.empty seat.new.me }
 {
     let mut found = stood;
     for _ in rt.forever() {
@@ -77,10 +67,11 @@ fn wait_and_take<T: Placed, R: Wait>(
         waiters.come();
         shared.park(rt, place as usize, found);
         waiters.go();
-        match try_take(shared, seat, place) {
-            Ok(value) => return value,
-            Err(next) => found = next,
+        let next = shared.compare_exchange::<Take>(seat, place as usize, FREE, TAKEN);
+        if next == FREE {
+            return;
         }
+        found = next as u32;
     }
     unreachable!()
 }

@@ -25,8 +25,8 @@ ask-requires-clause-site g t c =
     subst (λ i. i < length g.N.ClusterName.cluster.owned) (sym at)
     (first_within (length g.N.ClusterName.cluster.owned) c.in-Some.first.now c.args.left.now c.in-Some.rest.now c.requires.within c.in-Some.ensures.cases.0)
 
-pub gather-ended-requires : goal.gather-ended-requires
-gather-ended-requires g t c κs within =
+pub gather-requires : goal.gather-requires
+gather-requires g t c κs within =
     let at : c.split-grip.result.1.front.site ≡ c.in-Some.first.now =
     ap (λ (x : Cell g.row.N.Denot). x.front.site) c.split-grip.ensures.value ∙ c.lock.ensures.belongs.at ∙ c.first.view_is in
     let fewer : length c.in-Some.rest.now + 1 ≡ length c.args.left.now = c.in-Some.ensures.cases.1 in
@@ -61,9 +61,9 @@ pub take_off-front-requires : goal.take_off-front-requires
 take_off-front-requires g t c =
     let at : c.split-grip.result.1.front.site ≡ c.first.inside.0 =
     ap (λ (x : Cell g.row.N.Denot). x.front.site) c.split-grip.ensures.value ∙ c.lock.ensures.belongs.at in (
-      map (seeing c.gather-ended.new.pass.front) c.args.fronts.now,
-      comes_back c.put_on.new.row c.args.fronts.now c.gather-ended.new.fronts c.split-grip.result.1.front c.first.inside.0 c.gather-ended.new.pass.front c.put_on.ensures at
-          c.gather-ended.ensures.returned.fronts,
+      map (seeing c.gather.new.pass.front) c.args.fronts.now,
+      comes_back c.put_on.new.row c.args.fronts.now c.gather.new.fronts c.split-grip.result.1.front c.first.inside.0 c.gather.new.pass.front c.put_on.ensures at
+          c.gather.ensures.returned.fronts,
     )
 
 pub apply-requires : goal.apply-requires
@@ -74,7 +74,7 @@ apply-requires g t c =
     subst (λ (site : Seen). has site.projection.alphabet c.in-Some-done_by.e ≡ true) (sym c.deref_mut.ensures.value)
     (cell_hears g.N.ClusterName.cluster g.N.TurnName.turn c.in-Some.first.now c.split-grip.result.1.site.value c.split-grip.result.1.front c.in-Some-done_by.e c.self.invariant.0.named
     (first_within (length g.N.ClusterName.cluster.owned) c.in-Some.first.now c.args.left.now c.in-Some.rest.now c.requires.within c.in-Some.ensures.cases.0) stands
-    (is_participant g.N.ClusterName.cluster g.N.TurnName.turn c.args.call.now (ending c.gather-ended.new.found c.gather-ended.result) c.in-Some-done_by.e c.in-Some.first.now (sym c.done_by.ensures ∙ c.in-Some-done_by.is)
+    (is_participant g.N.ClusterName.cluster g.N.TurnName.turn c.args.call.now (ending c.gather.new.found c.gather.new.ended) c.in-Some-done_by.e c.in-Some.first.now (sym c.done_by.ensures ∙ c.in-Some-done_by.is)
     (first_there (sites_of c.args.fronts.now) c.args.left.now c.in-Some.rest.now (sites_for g.N.ClusterName.cluster g.N.TurnName.turn c.args.call.now) c.in-Some.first.now c.requires.sites c.in-Some.ensures.cases.0)))
 
 pub unlock-requires : goal.unlock-requires
@@ -84,21 +84,21 @@ unlock-requires g t c =
     (subst (λ (x : Cell g.row.N.Denot). CellStands g.N.ClusterName.cluster c.first.inside.0 x.site.value x.front) (sym c.split-grip.ensures.value) c.lock.ensures.belongs) in
     let known : c.in-Some.first.now < length g.N.ClusterName.cluster.owned =
     first_within (length g.N.ClusterName.cluster.owned) c.in-Some.first.now c.args.left.now c.in-Some.rest.now c.requires.within c.in-Some.ensures.cases.0 in
-    let again : c.take_off-front.result ≡ seeing c.gather-ended.new.pass.front c.split-grip.result.1.front =
-    (came_back c.put_on.new.row c.args.fronts.now c.gather-ended.new.fronts c.take_off-front.new.row c.split-grip.result.1.front c.take_off-front.result c.gather-ended.new.pass.front c.put_on.ensures
-    c.gather-ended.ensures.returned.fronts c.take_off-front.ensures.rest).1 in
-    let back : CellStands g.N.ClusterName.cluster c.in-Some.first.now c.match-done_by.site.value (seeing c.gather-ended.new.pass.front c.split-grip.result.1.front) = elim c.match-done_by.branch [
+    let again : c.take_off-front.result ≡ seeing c.gather.new.pass.front c.split-grip.result.1.front =
+    (came_back c.put_on.new.row c.args.fronts.now c.gather.new.fronts c.take_off-front.new.row c.split-grip.result.1.front c.take_off-front.result c.gather.new.pass.front c.put_on.ensures
+    c.gather.ensures.returned.fronts c.take_off-front.ensures.rest).1 in
+    let back : CellStands g.N.ClusterName.cluster c.in-Some.first.now c.match-done_by.site.value (seeing c.gather.new.pass.front c.split-grip.result.1.front) = elim c.match-done_by.branch [
       | in-Some-done_by w ↦
-          subst (λ (site : _). CellStands g.N.ClusterName.cluster c.in-Some.first.now site.value (seeing c.gather-ended.new.pass.front c.split-grip.result.1.front)) (sym w.site-is)
+          subst (λ (site : _). CellStands g.N.ClusterName.cluster c.in-Some.first.now site.value (seeing c.gather.new.pass.front c.split-grip.result.1.front)) (sym w.site-is)
           (stepped_on g.N.ClusterName.cluster g.N.StoreName.first g.N.TurnName.capacity g.N.TurnName.turn c.in-Some.first.now w.in-Some-done_by.e c.split-grip.result.1.site.value w.apply.new.self
-          c.split-grip.result.1.front c.put_on.new.row c.args.fronts.now c.gather-ended.new.fronts c.args.pass.now c.gather-ended.new.pass c.args.call.now (ending c.gather-ended.new.found c.gather-ended.result)
-          c.self.invariant.0.named known stands c.put_on.ensures c.gather-ended.ensures (sym c.done_by.ensures ∙ w.in-Some-done_by.is)
+          c.split-grip.result.1.front c.put_on.new.row c.args.fronts.now c.gather.new.fronts c.args.pass.now c.gather.new.pass c.args.call.now (ending c.gather.new.found c.gather.new.ended)
+          c.self.invariant.0.named known stands c.put_on.ensures c.gather.ensures (sym c.done_by.ensures ∙ w.in-Some-done_by.is)
           (λ G S M at. w.apply.ensures.stepped G S M (subst (StandsAt G S M) (sym w.deref_mut.ensures.value) at)))
       | in_default-done_by w ↦
-          subst (λ (site : _). CellStands g.N.ClusterName.cluster c.in-Some.first.now site.value (seeing c.gather-ended.new.pass.front c.split-grip.result.1.front)) (sym w.site-is)
+          subst (λ (site : _). CellStands g.N.ClusterName.cluster c.in-Some.first.now site.value (seeing c.gather.new.pass.front c.split-grip.result.1.front)) (sym w.site-is)
           (left_as_is g.N.ClusterName.cluster g.N.StoreName.first g.N.TurnName.capacity g.N.TurnName.turn c.in-Some.first.now c.split-grip.result.1.site.value
-          c.split-grip.result.1.front c.put_on.new.row c.args.fronts.now c.gather-ended.new.fronts c.args.pass.now c.gather-ended.new.pass c.args.call.now (ending c.gather-ended.new.found c.gather-ended.result)
-          c.self.invariant.0.named known stands c.put_on.ensures c.gather-ended.ensures (sym c.done_by.ensures ∙ w.in_default-done_by.is))
+          c.split-grip.result.1.front c.put_on.new.row c.args.fronts.now c.gather.new.fronts c.args.pass.now c.gather.new.pass c.args.call.now (ending c.gather.new.found c.gather.new.ended)
+          c.self.invariant.0.named known stands c.put_on.ensures c.gather.ensures (sym c.done_by.ensures ∙ w.in_default-done_by.is))
     ] in
     let place : c.join.result.place ≡ c.in-Some.first.now = c.join.ensures.place ∙ c.split-grip.ensures.place ∙ c.lock.ensures.place ∙ c.first.view_is in
     subst (λ i. CellStands g.N.ClusterName.cluster i c.join.result.value.site.value c.join.result.value.front) (sym place)
@@ -107,8 +107,8 @@ unlock-requires g t c =
 
 pub returns : goal.returns
 returns g t c =
-    made_without g.N.ClusterName.cluster g.N.StoreName.first g.N.TurnName.capacity g.N.TurnName.turn c.args.pass.now c.gather-ended.new.pass c.put_on.new.row c.args.fronts.now
-    c.gather-ended.new.fronts c.take_off-front.new.row c.split-grip.result.1.front c.args.call.now (ending c.gather-ended.new.found c.gather-ended.result) c.put_on.ensures
-    (came_back c.put_on.new.row c.args.fronts.now c.gather-ended.new.fronts c.take_off-front.new.row c.split-grip.result.1.front c.take_off-front.result c.gather-ended.new.pass.front c.put_on.ensures
-    c.gather-ended.ensures.returned.fronts c.take_off-front.ensures.rest).0
-    c.gather-ended.ensures
+    made_without g.N.ClusterName.cluster g.N.StoreName.first g.N.TurnName.capacity g.N.TurnName.turn c.args.pass.now c.gather.new.pass c.put_on.new.row c.args.fronts.now
+    c.gather.new.fronts c.take_off-front.new.row c.split-grip.result.1.front c.args.call.now (ending c.gather.new.found c.gather.new.ended) c.put_on.ensures
+    (came_back c.put_on.new.row c.args.fronts.now c.gather.new.fronts c.take_off-front.new.row c.split-grip.result.1.front c.take_off-front.result c.gather.new.pass.front c.put_on.ensures
+    c.gather.ensures.returned.fronts c.take_off-front.ensures.rest).0
+    c.gather.ensures

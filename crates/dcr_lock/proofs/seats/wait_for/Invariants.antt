@@ -1,5 +1,5 @@
 use Rattle.std.proofs.Common.{◌≡◌}
-use Rattle.dcr_lock.proofs.seats.wait_and_take.Given as goal
+use Rattle.dcr_lock.proofs.seats.wait_for.Given as goal
 
 abbrev pub invariant-loop : goal.invariant-loop
 invariant-loop g l =
