@@ -27,6 +27,7 @@ lib)
     ;;
 run)
     echo "rt: chose --jobs 4 for dcr" >&2
+    sleep "${LATE:-0}"
     [ "${FAILS:-}" != link ] || exit 3
     mkdir -p out
     printf '#!/bin/sh\\n[ "$1" = run ] || exit 2\\n[ "${2:-}" != status ] || exit 8\\necho "%s $*"\\ncat\\n' "$(cat src/main.rt)" >out/dcr.linking
@@ -139,6 +140,12 @@ def check_a_change_is_built():
         os.remove(it.top + "/crates/dcr_set/src/lib.rt")
         it.dcr("run")
         want(len(it.calls()) > before, "a file that went is not built")
+
+
+def check_a_crate_that_is_named_twice_ends_nothing():
+    # All crates are named before rt is ended, and then the last ones again, each built by itself.
+    with checkout() as it:
+        want_ran(it.dcr("run", LATE="3"))
 
 
 def check_from_anywhere():
