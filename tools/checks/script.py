@@ -1,4 +1,4 @@
-"""`./dcr` over a small checkout of four crates and a stand-in for `rt`, which is slow, fails, or is missing."""
+"""`./dcr` over a small checkout of four crates and a stand-in for the kit, which is slow, fails, or is missing."""
 
 import contextlib
 import os
@@ -11,41 +11,58 @@ import time
 
 from checks import TOP, NotTried, run, want
 
-# The stand-in proves nothing: it waits, tells what rt tells, and makes a program of the shell that tells its words.
-RT = """#!/bin/sh
-echo "$*" >>"$STAND_IN/calls"
-case $1 in
-all)
-    for crate in dcr_set dcr_base dcr_app dcr; do
-        sleep "${SLOW:-0}"
-        [ "${FAILS:-}" != "$crate" ] || { echo "$crate: not proved"; exit 1; }
-        echo "== $crate"
-    done
-    ;;
-lib)
-    echo "rt: chose --jobs 2 for dcr_app"
-    ;;
-run)
-    echo "rt: chose --jobs 4 for dcr" >&2
-    sleep "${LATE:-0}"
-    [ "${FAILS:-}" != link ] || exit 3
-    mkdir -p out
-    printf '#!/bin/sh\\n[ "$1" = run ] || exit 2\\n[ "${2:-}" != status ] || exit 8\\necho "%s $*"\\ncat\\n' "$(cat src/main.rt)" >out/dcr.linking
-    chmod +x out/dcr.linking
-    mv out/dcr.linking out/dcr
-    [ "${FAILS:-}" != report ] || echo "another line"
-    exec out/dcr run
-    ;;
-esac
-"""
-USAGE, NO_RT, FAILED, NOT_WRITABLE = 2, 69, 70, 73
+# The stand-in proves nothing: it waits, in a process of its own, and makes a program of the shell that tells its words. A
+# library that a crate is built over must be there.
+KIT = {
+    "rt": """#!/bin/sh
+echo a kit
+""",
+    "rattle": """#!/bin/sh
+while [ $# -gt 0 ]; do
+    case $1 in
+    --crate-name) crate=$2 ;;
+    --extern)
+        case $2 in */libraries/*) [ -d "${2#*=}" ] || missing=${2#*=} ;; esac
+        ;;
+    src/*) file=$1 ;;
+    -o) made=$2 ;;
+    esac
+    shift
+done
+echo "$crate" >>"$STAND_IN/calls"
+[ -z "${missing:-}" ] || { echo "$missing: is missing"; exit 2; }
+(
+    sleep "${SLOW:-0}"
+    [ "${FAILS:-}" != "$crate" ] || { echo "$crate: not proved"; exit 1; }
+    case $made in
+    *.o) cp "$file" "$made" ;;
+    *) mkdir "$made" ;;
+    esac
+) &
+wait $!
+""",
+    "rattle-link": """#!/bin/sh
+while [ $# -gt 0 ]; do
+    case $1 in
+    -o) program=$2 ;;
+    *.o) object=$1 ;;
+    esac
+    shift
+done
+[ "${FAILS:-}" != link ] || { echo "dcr: not linked"; exit 3; }
+printf '#!/bin/sh\n[ "$1" = run ] || exit 2\n[ "${2:-}" != status ] || exit 8\n[ "${FAILS:-}" != report ] || echo "another line"\necho "%s $*"\ncat\n' "$(cat "$object")" >"$program"
+chmod +x "$program"
+""",
+}
+ALL = ["dcr", "dcr_app", "dcr_base", "dcr_set"]
+USAGE, NO_KIT, FAILED, NOT_WRITABLE = 2, 69, 70, 73
 
 
 class Checkout:
     """A checkout of four crates in a folder of its own, with the stand-in on the path."""
 
     def __init__(self, folder):
-        self.top, self.bin = os.path.join(folder, "the check out"), os.path.join(folder, "bin")
+        self.top, self.bin = os.path.join(folder, "the check out"), os.path.join(folder, "the kit/bin")
         for crate, file in [("dcr_set", "lib.rt"), ("dcr_base", "lib.rt"), ("dcr_app", "lib.rt"), ("dcr", "main.rt")]:
             os.makedirs("%s/crates/%s/src" % (self.top, crate))
             self.write("crates/%s/src/%s" % (crate, file), "first")
@@ -55,11 +72,13 @@ class Checkout:
         self.write("examples/first.report", "first run\na case")
         shutil.copy(TOP + "/dcr", self.top + "/dcr")
         os.mkdir(self.top + "/tools")
-        shutil.copy(TOP + "/tools/built.sh", self.top + "/tools/built.sh")
-        os.mkdir(self.bin)
-        with open(self.bin + "/rt", "w") as file:
-            file.write(RT)
-        os.chmod(self.bin + "/rt", 0o755)
+        for tool in ("built.sh", "build.py"):
+            shutil.copy("%s/tools/%s" % (TOP, tool), "%s/tools/%s" % (self.top, tool))
+        os.makedirs(self.bin)
+        for name, text in KIT.items():
+            with open("%s/%s" % (self.bin, name), "w") as file:
+                file.write(text)
+            os.chmod("%s/%s" % (self.bin, name), 0o755)
         self.environment = {"PATH": self.bin + ":/usr/bin:/bin", "STAND_IN": folder}
         self.calls_file = folder + "/calls"
 
@@ -73,9 +92,16 @@ class Checkout:
         self.write("examples/first.report", "%s run\na case" % text)
 
     def calls(self):
+        """The crates that were taken up so far, in order."""
         with contextlib.suppress(FileNotFoundError), open(self.calls_file) as file:
-            return [line.split()[0] for line in file]
+            return file.read().split()
         return []
+
+    def proved(self, call):
+        """The crates that are taken up while something is done, in order."""
+        before = len(self.calls())
+        call()
+        return self.calls()[before:]
 
     def dcr(self, *words, by=None, given=b"input", cwd=None, **more):
         return run([by or self.top + "/dcr", *words], given, env={**self.environment, **more}, cwd=cwd)
@@ -97,13 +123,31 @@ def want_ran(told, text=b"first run\ninput"):
 
 def check_the_first_call_builds_and_later_ones_run():
     with checkout() as it:
-        told = it.dcr("run", SLOW="0.7")
+        told = it.dcr("run", SLOW="0.3")
         want_ran(told)
-        want(b"of 4 crates, last dcr_" in told[2] or b"of 4 crates, now dcr_" in told[2] and b"so far" in told[2], "it tells too little: %s" % told[2])
+        want(b"of 4 crates, last dcr_" in told[2] and b"so far" in told[2], "it tells too little: %s" % told[2])
         want(all(line.startswith(b"dcr: ") for line in told[2].splitlines()), "another program speaks: %s" % told[2])
-        want(it.calls() == ["all", "lib", "run"], str(it.calls()))
+        want(sorted(it.calls()) == ALL and it.calls()[2:] == ["dcr_app", "dcr"], str(it.calls()))
         want(it.dcr("run") == (0, b"first run\ninput", b""), "the second call isn't silent")
-        want(it.calls() == ["all", "lib", "run"], str(it.calls()))
+        want(len(it.calls()) == 4, str(it.calls()))
+
+
+def check_what_did_not_change_is_not_proved_again():
+    def again():
+        os.remove(it.top + "/crates/dcr/out/dcr.built")
+        want_ran(it.dcr("run"))
+
+    with checkout() as it:
+        it.dcr("run")
+        want(it.proved(again) == [], "nothing changed")
+        it.write("crates/dcr_base/src/lib.rt", "changed")
+        want(it.proved(again) == ["dcr_base", "dcr_app", "dcr"], "a library that changed, and what stands on it")
+        # A library fits only those that it was built over.
+        os.rmdir(it.top + "/crates/dcr/out/libraries/dcr_set.rlib")
+        want(it.proved(again) == ["dcr_set", "dcr_app", "dcr"], "a library that went, and what stands on it")
+        with open(it.bin + "/rt", "w") as file:
+            file.write("#!/bin/sh\necho another kit\n")
+        want(sorted(it.proved(again)) == ALL, "another kit")
 
 
 def check_on_a_terminal_one_line_is_written_anew():
@@ -136,16 +180,8 @@ def check_a_change_is_built():
         it.change("third")
         os.utime(it.top + "/crates/dcr/src/main.rt", (1, 1))
         want_ran(it.dcr("run"), b"third run\ninput")
-        before = len(it.calls())
         os.remove(it.top + "/crates/dcr_set/src/lib.rt")
-        it.dcr("run")
-        want(len(it.calls()) > before, "a file that went is not built")
-
-
-def check_a_crate_that_is_named_twice_ends_nothing():
-    # All crates are named before rt is ended, and then the last ones again, each built by itself.
-    with checkout() as it:
-        want_ran(it.dcr("run", LATE="3"))
+        want(it.proved(lambda: it.dcr("run")) == ["dcr_set", "dcr_app", "dcr"], "a file that went is not built")
 
 
 def check_from_anywhere():
@@ -165,9 +201,10 @@ def check_from_anywhere():
 
 def check_a_failed_build_runs_nothing():
     with checkout() as it:
-        for fails, log in [("dcr_set", b"dcr_set: not proved"), ("link", b"for dcr"), ("report", b"first.report")]:
+        for fails, log in [("dcr_set", b"dcr_set: not proved"), ("link", b"dcr: not linked"), ("report", b"first.report")]:
             status, wrote, said = it.dcr("run", FAILS=fails)
             want((status, wrote) == (FAILED, b"") and log in said, "%s: %s" % (fails, (status, wrote, said)))
+            want(fails != "dcr_set" or "dcr_app" not in it.calls(), "what stands on a crate that failed is taken up")
         want(it.dcr("run", FAILS="link")[0] == FAILED, "the second time")
         want_ran(it.dcr("run"))
 
@@ -176,18 +213,18 @@ def check_the_old_program_stays_and_is_not_run():
     with checkout() as it:
         it.dcr("run")
         it.change("second")
-        for fails in ("dcr_base", "link"):
+        for fails in ("dcr", "link"):
             status, wrote, said = it.dcr("run", FAILS=fails)
             want((status, wrote) == (FAILED, b""), str((status, wrote, said)))
             want(run([it.top + "/crates/dcr/out/dcr", "run"])[1] == b"first run\n", "the program that worked went")
         it.change("first")
-        want_ran(it.dcr("run", FAILS="dcr_base"))
+        want_ran(it.dcr("run", FAILS="dcr"))
 
 
-def check_a_missing_rt_is_told():
+def check_a_missing_kit_is_told():
     with checkout() as it:
         status, wrote, said = it.dcr("run", PATH="/usr/bin:/bin")
-        want((status, wrote) == (NO_RT, b"") and b"rt" in said and b"PATH" in said and said.count(b"\n") == 1, str((status, wrote, said)))
+        want((status, wrote) == (NO_KIT, b"") and b"rt" in said and b"PATH" in said and said.count(b"\n") == 1, str((status, wrote, said)))
         it.dcr("run")
         want_ran(it.dcr("run", PATH="/usr/bin:/bin"))
 
@@ -221,7 +258,7 @@ def check_two_calls_at_once_build_once():
         for ran in both:
             wrote, said = ran.communicate(b"input", timeout=300)
             want_ran((ran.returncode, wrote, said))
-        want(it.calls() == ["all", "lib", "run"], str(it.calls()))
+        want(sorted(it.calls()) == ALL, str(it.calls()))
 
 
 def check_a_copy_runs_what_it_has():
@@ -231,7 +268,7 @@ def check_a_copy_runs_what_it_has():
         os.chmod(other + "/copy/dcr", 0o755)
         os.chmod(other + "/copy/crates/dcr/out/dcr", 0o755)
         want_ran(it.dcr("run", by=other + "/copy/dcr"))
-        want(it.calls() == ["all", "lib", "run"], "a copy is built again")
+        want(len(it.calls()) == 4, "a copy is built again")
         # Copied after a change, with times that say nothing of it.
         it.change("second")
         shutil.copytree(it.top, other + "/second", copy_function=shutil.copyfile)
@@ -250,6 +287,10 @@ def ended(number, process_group):
         (os.killpg if process_group else os.kill)(ran.pid, number)
         wrote, said = ran.communicate(b"input", timeout=300)
         want(ran.returncode == -number and wrote == b"" and b"interrupted" in said, str((ran.returncode, wrote, said)))
+        # What it had started has ended too: else it would have made a library by now.
+        time.sleep(2.5)
+        made = os.listdir(it.top + "/crates/dcr/out/libraries")
+        want(not any(name.endswith(".rlib") for name in made), str(made))
         want_ran(it.dcr("run"))
 
 
@@ -259,6 +300,18 @@ def check_a_build_that_is_interrupted():
 
 def check_a_build_that_is_ended():
     ended(signal.SIGTERM, False)
+
+
+def check_a_build_whose_script_is_killed_is_waited_for():
+    with checkout() as it:
+        ran = it.begin("run", SLOW="1")
+        while not it.calls():
+            time.sleep(0.05)
+        ran.kill()
+        ran.wait()
+        told = it.dcr("run")
+        want_ran(told)
+        want(b"waiting for it" in told[2] and sorted(it.calls()) == ALL, str((told, it.calls())))
 
 
 def check_a_change_during_the_build_is_seen():
