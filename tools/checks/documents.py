@@ -60,6 +60,70 @@ def check_edits_that_are_named_are_there():
     want(not lost, "docs/PROMISES.md names edits that there are not: %s" % ", ".join(lost))
 
 
+def check_sources_that_are_named_are_there():
+    lost = []
+    for page, text in pages().items():
+        for path in re.findall(r"`(?:\w+/)*(\w+\.(?:rt|antt))`", text):
+            if not glob.glob(TOP + "/crates/*/**/" + path, recursive=True):
+                lost.append("%s: %s" % (page, path))
+        # (a definition's file, and the words that stand in it)
+        for path, words in re.findall(r"`(\w+/(?:src|specs)/[\w/]+\.(?:rt|antt))`((?:[:,] `\w+`(?:, `\w+`)*)?)", text):
+            there = os.path.join(TOP, "crates", path)
+            held = read(there).decode() if os.path.exists(there) else ""
+            lost += ["%s: %s: %s" % (page, path, it) for it in re.findall(r"`(\w+)`", words) if not re.search(r"\b%s\b" % it, held)]
+            lost += [] if held else ["%s: %s" % (page, path)]
+    want(not lost, "; ".join(lost))
+
+
+def contracts():
+    """What a promise can name, by crate: its functions with the names of their clauses, and its other items with none."""
+    found = {}
+    for path in glob.glob(TOP + "/crates/*/src/**/*.rt", recursive=True):
+        items, name = found.setdefault(os.path.relpath(path, TOP).split("/")[1], {}), ""
+        for line in read(path).decode().splitlines():
+            item = re.match(r"\s*(?:pub(?:\(\w+\))? )?(?:const )?(fn|struct|enum|trait|mod) (\w+)", line)
+            clause = re.match(r"\s*(?:ensures|requires|ghost) (\w+)\s*[{:=]", line)
+            if item:
+                name = item.group(2) if item.group(1) == "fn" else ""
+                items.setdefault(item.group(2), set())
+            elif clause:
+                # (a trait's facts, which stand outside its functions, are the crate's)
+                items.setdefault(name, set()).add(clause.group(1))
+                items.setdefault("", set()).add(clause.group(1))
+    return found
+
+
+def check_functions_and_clauses_that_are_named_are_there():
+    every, lost = contracts(), []
+    words = {word for path in glob.glob(TOP + "/crates/*/specs/**/*.antt", recursive=True) for word in re.findall(r"\w+", read(path).decode())}
+    for number, line in enumerate(read("docs/PROMISES.md").decode().splitlines(), 1):
+        cells = line.strip("| ").split("|")
+        if len(cells) < 5 or not cells[1].strip(" -"):
+            continue
+        # (what stands in brackets, and the facts of a record, are words of the definitions)
+        inside = {it for part in re.findall(r"\([^()]*\)|[^;()]* of `[A-Z]\w*`", cells[2]) for it in re.findall(r"`(\w+)`", part)}
+        named = {it for part in re.findall(r"`([\w:]+)`", cells[2]) for it in part.split("::")} - inside - {"requires", "ensures"}
+        promised = {it for part in re.findall(r"`([\w:]+)`", cells[1]) for it in part.split("::")}
+        crates = [every[it] for it in (promised | named) & {*every}] or [*every.values()]
+        items = {it for crate in crates for it in crate}
+        # (of a function its own clauses count, of a type, a trait or a whole crate all of its crate)
+        by_name = [crate[it] for crate in crates for it in promised | named if it in crate]
+        clauses = {it for of in by_name for it in of}
+        if any(not of for of in by_name) or promised <= {*every}:
+            clauses |= {it for crate in crates for of in crate.values() for it in of}
+        lost += ["%d: %s" % (number, it) for it in sorted(promised - items - {*every})]
+        lost += ["%d: %s" % (number, it) for it in sorted(named - items - clauses - {*every})]
+        lost += ["%d: %s" % (number, it) for it in sorted(inside - items - clauses - words)]
+    want(not lost, "docs/PROMISES.md names what there is not, in lines %s" % "; ".join(lost))
+
+
+def check_clauses_that_the_readme_names_are_those_of_the_call():
+    proved = read("README.md").decode().partition("\n## What is proved\n")[2].partition("\n## ")[0]
+    named = {it for part in re.findall(r"\*\*([^*]+)\*\*", proved) for it in re.findall(r"`(\w+)`", part) if it not in ("serve", "load")}
+    lost = named - contracts()["dcr_app"]["dcr"]
+    want(named and not lost, "README.md names clauses that dcr_app::dcr hasn't: %s" % ", ".join(sorted(lost)))
+
+
 # ---- commands
 
 
