@@ -1,11 +1,11 @@
 // Rows without a tape.
-ghost use Rattle.std.specs.Prelude.{◌≡◌, [], Some};
+ghost use Rattle.std.specs.Prelude.{◌≡◌, ◌≤◌, [], Some};
 ghost use Rattle.dcr_json.specs.Built.{IsCase};
 ghost use Rattle.dcr_cell.specs.Stored.{MayBegin};
 ghost use Rattle.dcr_cluster_rows.specs.Made.{AreOfCase, cluster_of};
 
 use crate::making::{Parts, is_in_range, no_tape, opened, parts_of};
-use crate::playing::{Step, case_of, expect_report, played, without_tape};
+use crate::playing::{Step, case_of, expect, expect_report, played, without_tape};
 use crate::texts::{HOSPITAL, HOSPITAL_REPORT, HOSPITAL_STEPS, NO_SESSION, SHARED_EVENT};
 use dcr_base::{Disk, OpenGate};
 use dcr_cell::StoreName;
@@ -15,10 +15,9 @@ use dcr_journal::{Call, Outcome};
 use dcr_json::Case;
 use dcr_set::{EventId, SiteId};
 use dcr_tape::Store;
-use dcr_turn::Pass;
+use dcr_turn::{Pass, TurnName};
 use std::alloc::Global;
 use std::marker::Brand;
-use std::process::Abort;
 use std::sync::Wait;
 use std::test::Fail;
 
@@ -95,44 +94,52 @@ fn an_event_that_two_sites_own(rt: HostRuntime) -> Result<(), Fail> {
     expect_report(rt.alloc(), &case, &end.closed, SHARED_REPORT)
 }
 
+// The steps at a cluster that has room for so many entries, after which it has just so many.
+fn fills_up<R: Wait>(rt: &R, alloc: Global, capacity: u32, steps: &[Step<'_>]) -> Result<(), Fail>
+    requires { capacity ≤ 200000 }
+{
+    let case = case_of(alloc, NO_SESSION)?;
+    let end = played(rt, alloc, &case, without_tape(alloc, capacity), steps)?;
+    expect(
+        end.closed.history.len() == capacity && end.closed.marks.len() == 1,
+        "the history is full",
+    )
+}
+
 #[test]
 fn a_history_that_is_full_takes_no_call(rt: HostRuntime) -> Result<(), Fail> {
-    let case = case_of(rt.alloc(), NO_SESSION)?;
     let two = [
         (0, "exec x a", "0 0 0 exec x a done"),
         (0, "exec x a", "1 0 1 exec x a done"),
         (0, "exec x a", "full 2"),
         (0, "accepting", "full 2"),
     ];
-    let end = played(&rt, rt.alloc(), &case, without_tape(rt.alloc(), 2), &two)?;
-    assert_eq!(rt; end.closed.history.len(), 2);
-    let none = [(0, "exec x a", "full 0")];
-    let end = played(&rt, rt.alloc(), &case, without_tape(rt.alloc(), 0), &none)?;
-    assert_eq!(rt; end.closed.history.len(), 0);
-    assert_eq!(rt; end.closed.marks.len(), 1);
-    Ok(())
+    fills_up(&rt, rt.alloc(), 2, &two)?;
+    fills_up(&rt, rt.alloc(), 0, &[(0, "exec x a", "full 0")])
+}
+
+// What so many questions whether anything is owed are told.
+fn many_told(alloc: Global, most: u32) -> Result<Vec<String>, Fail> {
+    let mut told = Vec::new(alloc);
+    for place in 0..most {
+        told.push(format!(in alloc; "{place} 0 {place} accepting yes")?)?;
+    }
+    told.push(format!(in alloc; "full {most}")?)?;
+    Ok(told)
 }
 
 #[test]
 fn a_history_goes_on_in_a_second_block(rt: HostRuntime) -> Result<(), Fail> {
-    let alloc = rt.alloc();
-    let case = case_of(alloc, NO_SESSION)?;
-    let mut told = Vec::new(alloc);
-    for place in 0..257 {
-        told.push(format!(in alloc; "{place} 0 {place} accepting yes")?)?;
-    }
-    let mut steps = Vec::new(alloc);
+    let told = many_told(rt.alloc(), 257)?;
+    let mut steps = Vec::new(rt.alloc());
     for line in &told {
         steps.push((0, "accepting", line.as_str()))?;
     }
-    steps.push((0, "accepting", "full 257"))?;
-    let end = played(&rt, alloc, &case, without_tape(alloc, 257), &steps)?;
-    assert_eq!(rt; end.closed.history.len(), 257);
-    Ok(())
+    fills_up(&rt, rt.alloc(), 257, &steps)
 }
 
 // Each of two sessions makes a call, and the first one learns of the second's.
-fn learned<N: StoreName<MemDisk>, R: Wait + Abort>(
+fn learned<N: StoreName<MemDisk>, R: Wait>(
     rt: &R,
     alloc: Global,
     case: &Case,
@@ -151,39 +158,53 @@ fn learned<N: StoreName<MemDisk>, R: Wait + Abort>(
     let Ok((cluster, mut passes)) = opened else {
         return Err(Fail::new("the cluster is opened"));
     };
-    let second = passes.pop().ok_or("two passes")?;
-    let first = passes.pop().ok_or("two passes")?;
-    both_called(rt, alloc, case, cluster, first, second)
+    both_called(rt, case, &cluster, &mut passes)?;
+    let end = cluster.close(rt, passes);
+    expect(
+        end.closed.history.len() == 2 && end.closed.waits.is_none(),
+        "two calls, and nothing is owed",
+    )
 }
 
-fn both_called<N: StoreName<MemDisk>, R: Wait + Abort>(
+fn both_called<N: StoreName<MemDisk>, R: Wait>(
     rt: &R,
-    alloc: Global,
     case: &Case,
-    cluster: Cluster<MemDisk, OpenGate, N>,
-    mut first: Pass<N>,
-    mut second: Pass<N>,
+    cluster: &Cluster<MemDisk, OpenGate, N>,
+    passes: &mut Vec<Pass<N>>,
 ) -> Result<(), Fail>
     requires case { IsCase case.now }
     requires cluster { N.cluster ≡ cluster_of case.now [] }
 {
     let call = Call::Exec(SiteId(0), EventId(0));
+    let Some((first, rest)) = passes.split_first_mut() else {
+        return Err(Fail::new("a first pass"));
+    };
+    let Some((second, _)) = rest.split_first_mut() else {
+        return Err(Fail::new("a second pass"));
+    };
     if !is_in_range(&call, case.cover.sites(), case.graph.atoms()) {
         return Err(Fail::new("a call of the case"));
     }
-    let done = cluster.call(rt, &mut first, call);
-    assert!(rt; is_done(&done));
-    let all_done = cluster.call(rt, &mut second, Call::Accepting);
-    assert!(rt; is_all_done(&all_done));
-    assert_eq!(rt; (first.seen(), first.made()), (1, 1));
-    cluster.learn(&mut first, &mut second);
-    assert_eq!(rt; (first.seen(), first.made()), (2, 1));
-    assert_eq!(rt; (second.seen(), second.made()), (2, 1));
-    let passes = Vec::from_array(alloc, [first, second])?;
-    let end = cluster.close(rt, passes);
-    assert_eq!(rt; end.closed.history.len(), 2);
-    assert!(rt; end.closed.waits.is_none());
-    Ok(())
+    expect(
+        is_done(&cluster.call(rt, first, call)),
+        "the execution is done",
+    )?;
+    expect(
+        is_all_done(&cluster.call(rt, second, Call::Accepting)),
+        "nothing is owed",
+    )?;
+    expect_made(first, 1)?;
+    cluster.learn(first, second);
+    expect_made(first, 2)?;
+    expect_made(second, 2)
+}
+
+// The pass has seen so many entries, of which its session made one.
+fn expect_made<N: TurnName>(pass: &Pass<N>, seen: u32) -> Result<(), Fail> {
+    expect(
+        pass.seen() == seen && pass.made() == 1,
+        "what a session has seen, and made",
+    )
 }
 
 fn is_done(answer: &Result<Outcome, Halt>) -> bool {

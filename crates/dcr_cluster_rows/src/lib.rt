@@ -8,7 +8,9 @@ mod playing;
 mod texts;
 
 pub use making::{Parts, behind_case, is_in_range, no_tape, opened, parts_of, report_of};
-pub use playing::{Beginning, Step, case_of, expect_report, expect_valid, played, without_tape};
+pub use playing::{
+    Beginning, Step, case_of, expect, expect_report, expect_valid, played, without_tape,
+};
 pub use texts::{
     HOSPITAL, HOSPITAL_REPORT, HOSPITAL_STEPS, NO_SESSION, SHARED_EVENT, SHARING_SITES,
     THREE_SITES, TWO_SITES,

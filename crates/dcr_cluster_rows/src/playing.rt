@@ -1,15 +1,17 @@
 // Calls that are made one after the other, as a table says, and what the cluster ends with.
-ghost use Rattle.std.specs.Prelude.{◌≡◌, ◌≤◌, Some, length, IfOk};
+ghost use Rattle.std.specs.Prelude.{◌≡◌, ◌≤◌, List, Some, length, IfOk};
+ghost use Rattle.dcr_journal.specs.Run.{IsInRange};
 ghost use Rattle.dcr_journal.specs.declared.call.Entry.{Entry};
 ghost use Rattle.dcr_json.specs.Built.{IsCase};
 ghost use Rattle.dcr_line.specs.Fits.{FitsEntry};
+ghost use Rattle.dcr_tape.specs.declared.entry.TapeEntry.{TapeEntry};
 ghost use Rattle.dcr_cell.specs.Stored.{MayBegin};
 ghost use Rattle.dcr_cluster_rows.specs.Made.{AreOfCase, IsOfCase, cluster_of};
 
 use crate::making::{Parts, behind_case, no_tape, opened, parts_of, report_of};
 use dcr_base::{Disk, OpenGate};
 use dcr_cell::StoreName;
-use dcr_cluster::{Finished, Halt};
+use dcr_cluster::{Cluster, Finished, Halt};
 use dcr_fakes::MemDisk;
 use dcr_journal::{Call, Closed, Entry, Outcome};
 use dcr_json::{Case, read_case};
@@ -115,17 +117,67 @@ fn play<N: StoreName<MemDisk>, R: Wait>(
     let Ok((cluster, mut passes)) = opened else {
         return Err(Fail::new("the cluster is opened"));
     };
-    let directory = Directory::new(alloc, &case.graph, &case.cover)?;
-    for (session, line, wanted) in steps {
-        let call = read_call(line.as_bytes(), &directory).ok_or("a call")?;
-        let pass = passes.get_mut(*session).ok_or("a session")?;
-        let answer = cluster.call(rt, pass, call);
-        let told = told(alloc, case, pass, &call, answer)?;
-        if told.as_slice() != wanted.as_bytes() {
-            return Err(differs(alloc, &told, wanted)?);
-        }
-    }
+    take_steps(rt, alloc, case, &cluster, &mut passes, steps)?;
     Ok(cluster.close(rt, passes))
+}
+
+// Makes the calls of the steps, one after the other, at a cluster of the case. It fails at the first that is told otherwise.
+fn take_steps<N: StoreName<MemDisk>, R: Wait>(
+    rt: &R,
+    alloc: Global,
+    case: &Case,
+    cluster: &Cluster<MemDisk, OpenGate, N>,
+    passes: &mut Vec<Pass<N>>,
+    steps: &[Step<'_>],
+) -> Result<(), Fail>
+    requires case { IsCase case.now }
+    requires cluster { (old : List TapeEntry) × (N.cluster ≡ cluster_of case.now old) }
+{
+    let directory = Directory::new(alloc, &case.graph, &case.cover)?;
+    for step in steps {
+        take_step(rt, alloc, case, cluster, &directory, passes, step)?;
+    }
+    Ok(())
+}
+
+fn take_step<N: StoreName<MemDisk>, R: Wait>(
+    rt: &R,
+    alloc: Global,
+    case: &Case,
+    cluster: &Cluster<MemDisk, OpenGate, N>,
+    directory: &Directory<'_>,
+    passes: &mut Vec<Pass<N>>,
+    step: &Step<'_>,
+) -> Result<(), Fail>
+    requires case { IsCase case.now }
+    requires cluster { (old : List TapeEntry) × (N.cluster ≡ cluster_of case.now old) }
+    requires directory { (length directory.now.sites ≡ length case.now.cover.names) × (length directory.now.atoms ≡ length case.now.graph.names) }
+{
+    let (session, line, wanted) = step;
+    let call = read_call(line.as_bytes(), directory).ok_or("a call")?;
+    let pass = passes.get_mut(*session).ok_or("a session")?;
+    make_call(rt, alloc, case, cluster, pass, call, wanted)
+}
+
+fn make_call<N: StoreName<MemDisk>, R: Wait>(
+    rt: &R,
+    alloc: Global,
+    case: &Case,
+    cluster: &Cluster<MemDisk, OpenGate, N>,
+    pass: &mut Pass<N>,
+    call: Call,
+    wanted: &str,
+) -> Result<(), Fail>
+    requires case { IsCase case.now }
+    requires cluster { (old : List TapeEntry) × (N.cluster ≡ cluster_of case.now old) }
+    requires call { IsInRange (length case.now.cover.names) (length case.now.graph.names) call }
+{
+    let answer = cluster.call(rt, pass, call);
+    let told = told(alloc, case, pass, &call, answer)?;
+    if told.as_slice() != wanted.as_bytes() {
+        return Err(differs(alloc, &told, wanted)?);
+    }
+    Ok(())
 }
 
 // The line of the entry that a pass has made last, or why none was made.
@@ -160,6 +212,11 @@ fn told<N: StoreName<MemDisk>>(
         Err(Halt::Full { capacity }) => Ok(format!(in alloc; "full {capacity}")?.into_bytes()),
         Err(Halt::Stopped { at }) => Ok(format!(in alloc; "stopped {at}")?.into_bytes()),
     }
+}
+
+/// Fails with these words where it doesn't hold.
+pub fn expect(is: bool, what: &str) -> Result<(), Fail> {
+    if is { Ok(()) } else { Err(Fail::new(what)) }
 }
 
 /// Fails where the report of the run is not one of a legal history, by the plain engine of the whole graph.

@@ -1,9 +1,9 @@
 // A cluster that is stopped within each call of its disk, and opened again from what a crash there may leave.
-ghost use Rattle.std.specs.Prelude.{◌≤◌, IfOk};
 ghost use Rattle.dcr_json.specs.Built.{IsCase};
 
-use crate::tapes::{EXECUTIONS, disk_in, disk_of, on_tape};
-use dcr_cluster_rows::{HOSPITAL, HOSPITAL_STEPS, Step, case_of, expect_valid, played};
+use crate::tapes::{EXECUTIONS, disk_in, disk_of, kept_on, left_by, on_tape};
+use dcr_cluster_rows::{HOSPITAL, HOSPITAL_STEPS, Step, case_of, expect, expect_valid, played};
+use dcr_fakes::MemDisk;
 use dcr_graph::Marking;
 use dcr_json::Case;
 use dcr_mark::Plain;
@@ -57,21 +57,49 @@ fn a_cluster_is_stopped_within_each_call_of_its_disk(rt: HostRuntime) -> Result<
     for call in MAKING + 1..=MAKING + 5 * EACH {
         let execution = ((call - MAKING - 1) / EACH) as usize;
         let within = (call - MAKING - 1) % EACH;
-        let beginning = on_tape(alloc, &case, disk_of(alloc, &[], &[call])?)?;
-        let steps = stopped_steps(alloc, execution)?;
-        let end = played(&rt, alloc, &case, beginning, &steps)?;
-        let disk = disk_in(end.store)?;
-        assert_eq!(rt; disk.calls().len(), call as usize);
         // The gate of the execution is written by the third call.
         let most = if within < 2 { execution } else { execution + 1 };
-        for choice in CHOICES {
-            let image = disk.image(alloc, call, choice)?;
-            let count = gone_on(&rt, alloc, &case, &image)?;
-            assert!(rt;
-                count == execution || count == most,
-                "call {call}, {choice:x}: {count} executions"
-            );
-        }
+        let disk = stopped_in(&rt, alloc, &case, call, execution)?;
+        assert_leaves(&rt, alloc, &case, &disk, call, execution, most)?;
+    }
+    Ok(())
+}
+
+// The disk whose call of this number fails, in the execution of this number.
+fn stopped_in<R: Wait + Abort>(
+    rt: &R,
+    alloc: Global,
+    case: &Case,
+    call: u32,
+    execution: usize,
+) -> Result<MemDisk, Fail>
+    requires { IsCase case.now }
+{
+    let steps = stopped_steps(alloc, execution)?;
+    let disk = left_by(rt, alloc, case, disk_of(alloc, &[], &[call])?, &steps)?;
+    assert_eq!(rt; disk.calls().len(), call as usize);
+    Ok(disk)
+}
+
+// That a crash within this call of the disk leaves as many executions as one of these.
+fn assert_leaves<R: Wait + Abort>(
+    rt: &R,
+    alloc: Global,
+    case: &Case,
+    disk: &MemDisk,
+    call: u32,
+    least: usize,
+    most: usize,
+) -> Result<(), Fail>
+    requires { IsCase case.now }
+{
+    for choice in CHOICES {
+        let image = disk.image(alloc, call, choice)?;
+        let count = gone_on(rt, alloc, case, &image)?;
+        assert!(rt;
+            count == least || count == most,
+            "call {call}, {choice:x}: {count} executions"
+        );
     }
     Ok(())
 }
@@ -92,42 +120,48 @@ fn assert_not_made(rt: &impl Abort, alloc: Global, case: &Case, call: u32) -> Re
 fn a_crash_within_each_call_leaves_what_was_answered(rt: HostRuntime) -> Result<(), Fail> {
     let alloc = rt.alloc();
     let case = case_of(alloc, HOSPITAL)?;
-    let beginning = on_tape(alloc, &case, disk_of(alloc, &[], &[])?)?;
-    let end = played(&rt, alloc, &case, beginning, &HOSPITAL_STEPS)?;
-    let disk = disk_in(end.store)?;
+    let empty = disk_of(alloc, &[], &[])?;
+    let disk = left_by(&rt, alloc, &case, empty, &HOSPITAL_STEPS)?;
     for call in MAKING + 1..=MAKING + 5 * EACH {
         let answered = ((call - MAKING - 1) / EACH) as usize;
-        for choice in CHOICES {
-            let image = disk.image(alloc, call, choice)?;
-            let count = gone_on(&rt, alloc, &case, &image)?;
-            assert!(rt;
-                count == answered || count == answered + 1,
-                "call {call}, {choice:x}: {count} executions"
-            );
-        }
+        assert_leaves(&rt, alloc, &case, &disk, call, answered, answered + 1)?;
     }
     Ok(())
 }
 
 // A cluster goes on from an image. Its executions are the first ones of the row, and it begins at the marking after them.
 // How many there are.
-fn gone_on<R: Wait + Abort>(rt: &R, alloc: Global, case: &Case, image: &[u8]) -> Result<usize, Fail>
+fn gone_on<R: Wait>(rt: &R, alloc: Global, case: &Case, image: &[u8]) -> Result<usize, Fail>
     requires { IsCase case.now }
-    ensures { IfOk result (λ count. count ≤ 5) }
 {
-    let beginning = on_tape(alloc, case, disk_of(alloc, image, &[])?)?;
-    let count = beginning.old.len();
-    assert!(rt; count <= 5);
-    assert!(rt; beginning.old.as_slice() == &EXECUTIONS[..count]);
-    let wanted = marking_after(alloc, case, &beginning.old)?;
+    let old = kept_on(alloc, case, image)?;
+    let count = old.len();
+    if count > 5 || old.as_slice() != &EXECUTIONS[..count] {
+        return Err(Fail::new("the first executions of the row"));
+    }
+    let wanted = marking_after(alloc, case, &old)?;
+    let disk = begun_at(rt, alloc, case, disk_of(alloc, image, &[])?, &wanted)?;
+    let again = kept_on(alloc, case, disk.bytes())?;
+    expect(again.len() == count + 1, "one execution more")?;
+    Ok(count)
+}
+
+// The disk after a cluster that goes on from its tape by one execution, which begins at the marking.
+fn begun_at<R: Wait>(
+    rt: &R,
+    alloc: Global,
+    case: &Case,
+    disk: MemDisk,
+    wanted: &Marking,
+) -> Result<MemDisk, Fail>
+    requires { IsCase case.now }
+{
+    let beginning = on_tape(alloc, case, disk)?;
     let steps = [(0, "exec doctor pm", "0 0 0 exec doctor pm done")];
     let end = played(rt, alloc, case, beginning, &steps)?;
-    assert!(rt; is_same_marking(&end.closed.opening, &wanted));
+    expect(is_same_marking(&end.closed.opening, wanted), "its opening")?;
     expect_valid(alloc, case, &end.closed)?;
-    let disk = disk_in(end.store)?.bytes().to_vec(alloc)?;
-    let again = on_tape(alloc, case, disk_of(alloc, &disk, &[])?)?;
-    assert_eq!(rt; again.old.len(), count + 1);
-    Ok(count)
+    disk_in(end.store)
 }
 
 // The marking of the case after these executions, by the plain engine of the whole graph.

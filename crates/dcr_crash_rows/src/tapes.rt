@@ -9,7 +9,8 @@ use dcr_base::{Disk, OpenGate};
 use dcr_cell::StoreName;
 use dcr_cluster::{OpenCause, OpenRefused};
 use dcr_cluster_rows::{
-    Beginning, HOSPITAL, HOSPITAL_STEPS, Parts, case_of, expect_report, opened, parts_of, played,
+    Beginning, HOSPITAL, HOSPITAL_STEPS, Parts, Step, case_of, expect, expect_report, opened,
+    parts_of, played,
 };
 use dcr_fakes::MemDisk;
 use dcr_json::Case;
@@ -18,6 +19,7 @@ use dcr_tape::{Store, TapeEntry, open_tape};
 use std::alloc::Global;
 use std::marker::Brand;
 use std::process::Abort;
+use std::sync::Wait;
 use std::test::Fail;
 
 /// The executions of the row, in order.
@@ -62,22 +64,69 @@ pub(crate) fn disk_in(store: Store<MemDisk>) -> Result<MemDisk, Fail> {
     }
 }
 
+/// What the disk is after these steps at a cluster over the tape on it.
+pub(crate) fn left_by<R: Wait>(
+    rt: &R,
+    alloc: Global,
+    case: &Case,
+    disk: MemDisk,
+    steps: &[Step<'_>],
+) -> Result<MemDisk, Fail>
+    requires { IsCase case.now }
+{
+    let beginning = on_tape(alloc, case, disk)?;
+    disk_in(played(rt, alloc, case, beginning, steps)?.store)
+}
+
+// The same, where the report ends with these lines.
+fn reported<R: Wait>(
+    rt: &R,
+    alloc: Global,
+    case: &Case,
+    disk: MemDisk,
+    steps: &[Step<'_>],
+    report: &str,
+) -> Result<MemDisk, Fail>
+    requires { IsCase case.now }
+{
+    let beginning = on_tape(alloc, case, disk)?;
+    let end = played(rt, alloc, case, beginning, steps)?;
+    expect_report(alloc, case, &end.closed, report)?;
+    disk_in(end.store)
+}
+
+/// The executions on the tape of these bytes.
+pub(crate) fn kept_on(alloc: Global, case: &Case, bytes: &[u8]) -> Result<Vec<TapeEntry>, Fail>
+    requires { IsCase case.now }
+    ensures few { IfOk result (λ old. length old.items ≤ 1000000) }
+{
+    let beginning = on_tape(alloc, case, disk_of(alloc, bytes, &[])?)?;
+    Ok(beginning.old)
+}
+
 #[test]
 fn five_executions_are_kept(rt: HostRuntime) -> Result<(), Fail> {
-    let alloc = rt.alloc();
-    let case = case_of(alloc, HOSPITAL)?;
-    let beginning = on_tape(alloc, &case, disk_of(alloc, &[], &[])?)?;
-    let end = played(&rt, alloc, &case, beginning, &HOSPITAL_STEPS)?;
-    let disk = disk_in(end.store)?;
-    assert_eq!(rt; disk.bytes().len(), 125);
-    assert_eq!(rt; disk.calls().len(), 24);
+    let case = case_of(rt.alloc(), HOSPITAL)?;
+    let empty = disk_of(rt.alloc(), &[], &[])?;
+    let disk = left_by(&rt, rt.alloc(), &case, empty, &HOSPITAL_STEPS)?;
+    expect_five(&disk)
+}
+
+fn expect_five(disk: &MemDisk) -> Result<(), Fail> {
     let records = [
         1, 0, 0, 0, 0, 0, 0, 0, 0, 0, 0, 0, 1, 0, 1, 0, 0, 0, 0, 0, 1, 0, 0, 0, 1, 0, 3, 0, 1, 0,
         0, 0, 2, 0, 0, 0, 1, 0, 1, 0, 0, 0, 0, 0, 3, 0, 0, 0, 1, 0, 2, 0, 1, 0, 0, 0, 4, 0, 0, 0,
         0,
     ];
-    assert!(rt; disk.bytes()[64..] == records[..]);
-    Ok(())
+    expect(disk.calls().len() == 24, "24 calls of the disk")?;
+    expect(disk.bytes().len() == 125, "125 bytes")?;
+    match disk.bytes().get(64..) {
+        Some(behind) => expect(
+            behind == records.as_slice(),
+            "the records of five executions",
+        ),
+        None => Err(Fail::new("records")),
+    }
 }
 
 const FAULT_REPORT: &str = "open executed - pending - included pm,s,gm,dt
@@ -94,7 +143,6 @@ end 3
 fn a_fault_of_the_disk_ends_the_history(rt: HostRuntime) -> Result<(), Fail> {
     let alloc = rt.alloc();
     let case = case_of(alloc, HOSPITAL)?;
-    let beginning = on_tape(alloc, &case, disk_of(alloc, &[], &[9])?)?;
     let steps = [
         (0, "exec doctor pm", "0 0 0 exec doctor pm done"),
         (0, "exec nurse gm", "1 0 1 exec nurse gm condition s"),
@@ -102,12 +150,17 @@ fn a_fault_of_the_disk_ends_the_history(rt: HostRuntime) -> Result<(), Fail> {
         (0, "exec nurse dt", "stopped 2"),
         (0, "accepting", "stopped 2"),
     ];
-    let end = played(&rt, alloc, &case, beginning, &steps)?;
-    expect_report(alloc, &case, &end.closed, FAULT_REPORT)?;
-    let bytes = disk_in(end.store)?.bytes().to_vec(alloc)?;
-    let again = on_tape(alloc, &case, disk_of(alloc, &bytes, &[])?)?;
-    assert!(rt; again.old.as_slice() == &EXECUTIONS[..1]);
-    Ok(())
+    let empty = disk_of(alloc, &[], &[9])?;
+    let disk = reported(&rt, alloc, &case, empty, &steps, FAULT_REPORT)?;
+    expect_kept(alloc, &case, disk.bytes(), &EXECUTIONS[..1])
+}
+
+// That just these executions are on the tape of these bytes.
+fn expect_kept(alloc: Global, case: &Case, bytes: &[u8], wanted: &[TapeEntry]) -> Result<(), Fail>
+    requires { IsCase case.now }
+{
+    let old = kept_on(alloc, case, bytes)?;
+    expect(old.as_slice() == wanted, "the executions that were kept")
 }
 
 #[test]
@@ -121,8 +174,7 @@ fn a_fault_in_the_last_place_stops_before_it_is_full(rt: HostRuntime) -> Result<
         (0, "exec doctor pm", "stopped 0"),
     ];
     let end = played(&rt, alloc, &case, beginning, &steps)?;
-    assert_eq!(rt; end.closed.history.len(), 1);
-    Ok(())
+    expect(end.closed.history.len() == 1, "one entry")
 }
 
 const GONE_ON_REPORT: &str = "open executed pm pending s,gm included pm,s,gm,dt
@@ -137,14 +189,13 @@ end 1
 fn a_second_run_goes_on(rt: HostRuntime) -> Result<(), Fail> {
     let alloc = rt.alloc();
     let case = case_of(alloc, HOSPITAL)?;
-    let beginning = on_tape(alloc, &case, disk_of(alloc, &[], &[])?)?;
     let first = [(0, "exec doctor pm", "0 0 0 exec doctor pm done")];
-    let end = played(&rt, alloc, &case, beginning, &first)?;
-    let beginning = on_tape(alloc, &case, disk_in(end.store)?)?;
-    assert!(rt; beginning.old.as_slice() == &EXECUTIONS[..1]);
+    let empty = disk_of(alloc, &[], &[])?;
+    let disk = left_by(&rt, alloc, &case, empty, &first)?;
+    expect_kept(alloc, &case, disk.bytes(), &EXECUTIONS[..1])?;
     let second = [(0, "exec doctor s", "0 0 0 exec doctor s done")];
-    let end = played(&rt, alloc, &case, beginning, &second)?;
-    expect_report(alloc, &case, &end.closed, GONE_ON_REPORT)
+    reported(&rt, alloc, &case, disk, &second, GONE_ON_REPORT)?;
+    Ok(())
 }
 
 /// The tape of version 1 with the five executions: 105 bytes.
@@ -178,16 +229,23 @@ fn an_old_tape_is_renewed_and_goes_on(rt: HostRuntime) -> Result<(), Fail> {
     let alloc = rt.alloc();
     let case = case_of(alloc, HOSPITAL)?;
     let bytes = old_tape(alloc, &case)?;
-    assert_eq!(rt; bytes.len(), 105);
-    let beginning = on_tape(alloc, &case, disk_of(alloc, &bytes, &[])?)?;
-    assert!(rt; beginning.old.as_slice() == EXECUTIONS.as_slice());
+    expect(bytes.len() == 105, "105 bytes")?;
+    expect_kept(alloc, &case, &bytes, &EXECUTIONS)?;
     let steps = [(0, "exec nurse dt", "0 0 0 exec nurse dt done")];
-    let end = played(&rt, alloc, &case, beginning, &steps)?;
-    expect_report(alloc, &case, &end.closed, RENEWED_REPORT)?;
-    let disk = disk_in(end.store)?;
-    assert_eq!(rt; disk.bytes().len(), 242);
-    assert!(rt; disk.bytes()[40..49] == [1, 0, 0, 0, 0, 0, 0, 0, 0x69]);
-    Ok(())
+    let old = disk_of(alloc, &bytes, &[])?;
+    let disk = reported(&rt, alloc, &case, old, &steps, RENEWED_REPORT)?;
+    expect_renewed(disk.bytes())
+}
+
+fn expect_renewed(bytes: &[u8]) -> Result<(), Fail> {
+    expect(bytes.len() == 242, "242 bytes")?;
+    match bytes.get(40..49) {
+        Some(behind) => expect(
+            behind == [1, 0, 0, 0, 0, 0, 0, 0, 0x69].as_slice(),
+            "where the old bytes end",
+        ),
+        None => Err(Fail::new("a second part")),
+    }
 }
 
 // What comes of a cluster that is opened with these executions from before: nothing, or why it is refused, with the store.
@@ -257,14 +315,32 @@ fn the_first_execution_that_cannot_be_done_is_told(rt: HostRuntime) -> Result<()
         ),
     ];
     for (number, (old, wanted)) in rows.iter().enumerate() {
-        let store = Store::Off(disk_of(alloc, &[1, 2, 3], &[])?);
-        match tried(alloc, &case, store, old)? {
-            Ok(()) => assert!(rt; wanted.is_none(), "row {number}"),
-            Err(refused) => {
-                let at = wanted.ok_or("an execution that can be done")?;
-                assert_eq!(rt; refused.cause, OpenCause::BadTape { at }, "row {number}");
-                assert_untouched(&rt, refused.store, &[1, 2, 3]);
-            }
+        assert_told(&rt, alloc, &case, old, *wanted, number)?;
+    }
+    Ok(())
+}
+
+// That the executions are refused for this one, with the store as it was, or done.
+fn assert_told(
+    rt: &impl Abort,
+    alloc: Global,
+    case: &Case,
+    old: &[TapeEntry],
+    wanted: Option<u32>,
+    row: usize,
+) -> Result<(), Fail>
+    requires { IsCase case.now }
+{
+    if old.len() > 10 {
+        return Err(Fail::new("few executions"));
+    }
+    let store = Store::Off(disk_of(alloc, &[1, 2, 3], &[])?);
+    match tried(alloc, case, store, old)? {
+        Ok(()) => assert!(rt; wanted.is_none(), "row {row}"),
+        Err(refused) => {
+            let at = wanted.ok_or("an execution that can be done")?;
+            assert_eq!(rt; refused.cause, OpenCause::BadTape { at }, "row {row}");
+            assert_untouched(rt, refused.store, &[1, 2, 3]);
         }
     }
     Ok(())
@@ -281,21 +357,33 @@ fn assert_untouched(rt: &impl Abort, store: Store<MemDisk>, bytes: &[u8]) {
     }
 }
 
+// Why a cluster over the tape on this disk is refused.
+fn refused_on(alloc: Global, case: &Case, disk: MemDisk) -> Result<OpenRefused<MemDisk>, Fail>
+    requires { IsCase case.now }
+{
+    let beginning = on_tape(alloc, case, disk)?;
+    match tried(alloc, case, beginning.store, &beginning.old)? {
+        Ok(()) => Err(Fail::new("a refusal")),
+        Err(refused) => Ok(refused),
+    }
+}
+
 #[test]
 fn a_tape_of_another_graph_is_as_it_was(rt: HostRuntime) -> Result<(), Fail> {
     let alloc = rt.alloc();
     let case = case_of(alloc, HOSPITAL)?;
     let mut bytes = old_tape(alloc, &case)?;
-    assert_eq!(rt; bytes.len(), 105);
-    bytes[83] = 9;
-    let beginning = on_tape(alloc, &case, disk_of(alloc, &bytes, &[])?)?;
-    let Err(refused) = tried(alloc, &case, beginning.store, &beginning.old)? else {
-        return Err(Fail::new("a refusal"));
-    };
-    assert_eq!(rt; refused.cause, OpenCause::BadTape { at: 2 });
+    match bytes.get_mut(83) {
+        Some(event) => *event = 9,
+        None => return Err(Fail::new("105 bytes")),
+    }
+    let refused = refused_on(alloc, &case, disk_of(alloc, &bytes, &[])?)?;
+    expect(
+        refused.cause == OpenCause::BadTape { at: 2 },
+        "the third execution",
+    )?;
     let disk = disk_in(refused.store)?;
-    assert_eq!(rt; disk.bytes(), bytes.as_slice());
-    Ok(())
+    expect(disk.bytes() == bytes.as_slice(), "the bytes as they were")
 }
 
 // How many calls of the disk the opening of the old tape makes.
@@ -317,22 +405,28 @@ fn a_renewal_that_fails_keeps_the_executions(rt: HostRuntime) -> Result<(), Fail
     let bytes = old_tape(alloc, &case)?;
     let before = calls_of_an_opening(alloc, &case, &bytes)?;
     for fault in 1..=5u32 {
-        let call = before.wrapping_add(fault);
-        let beginning = on_tape(alloc, &case, disk_of(alloc, &bytes, &[call])?)?;
-        let Err(refused) = tried(alloc, &case, beginning.store, &beginning.old)? else {
-            return Err(Fail::new("a refusal"));
-        };
-        assert_eq!(rt; refused.cause, OpenCause::DiskFault, "call {fault}");
-        let disk = disk_in(refused.store)?;
-        assert_eq!(rt; disk.calls().len(), call as usize);
-        for choice in CHOICES {
-            let image = disk.image(alloc, call, choice)?;
-            let again = on_tape(alloc, &case, disk_of(alloc, &image, &[])?)?;
-            assert!(rt;
-                again.old.as_slice() == EXECUTIONS.as_slice(),
-                "call {fault}, {choice:x}"
-            );
-        }
+        assert_kept(&rt, alloc, &case, &bytes, before.wrapping_add(fault))?;
+    }
+    Ok(())
+}
+
+// That a renewal of the tape whose call of this number fails is refused, and a crash in it leaves the executions.
+fn assert_kept(
+    rt: &impl Abort,
+    alloc: Global,
+    case: &Case,
+    bytes: &[u8],
+    call: u32,
+) -> Result<(), Fail>
+    requires { IsCase case.now }
+{
+    let refused = refused_on(alloc, case, disk_of(alloc, bytes, &[call])?)?;
+    assert_eq!(rt; refused.cause, OpenCause::DiskFault, "call {call}");
+    let disk = disk_in(refused.store)?;
+    assert_eq!(rt; disk.calls().len(), call as usize);
+    for choice in CHOICES {
+        let image = disk.image(alloc, call, choice)?;
+        expect_kept(alloc, case, &image, &EXECUTIONS)?;
     }
     Ok(())
 }

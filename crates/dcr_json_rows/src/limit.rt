@@ -177,9 +177,32 @@ fn letters(alloc: Global, letter: char, count: u32) -> Result<String, AllocError
     Ok(text)
 }
 
+// The events, held against their limit.
+fn assert_events(
+    rt: &impl Abort,
+    alloc: Global,
+    events: &str,
+    want: Option<(LimitKind, u32)>,
+    row: &str,
+) -> Result<(), AllocError> {
+    assert_limit(rt, alloc, &Parts { events, ..LEAST }, want, row)
+}
+
+// A label of so many letters.
+fn assert_label(
+    rt: &impl Abort,
+    alloc: Global,
+    letter: char,
+    count: u32,
+    want: Option<(LimitKind, u32)>,
+) -> Result<(), AllocError> {
+    let label = letters(alloc, letter, count)?;
+    let events = format!(in alloc; "{{\"name\":\"a\"}},{{\"name\":\"b\",\"label\":\"{label}\"}}")?;
+    assert_events(rt, alloc, events.as_str(), want, "label")
+}
+
 #[test]
 fn measures_written_labels_in_bytes(rt: HostRuntime) -> Result<(), Fail> {
-    let alloc = rt.alloc();
     for (letter, count, want) in [
         ('l', 0, None),
         ('l', 200, None),
@@ -189,30 +212,28 @@ fn measures_written_labels_in_bytes(rt: HostRuntime) -> Result<(), Fail> {
         ('\u{1f600}', 50, None),
         ('\u{1f600}', 51, Some((LimitKind::Label, 204))),
     ] {
-        let label = letters(alloc, letter, count)?;
-        let events = format!(in alloc;
-            "{{\"name\":\"a\"}},{{\"name\":\"b\",\"label\":\"{label}\"}}"
-        )?;
-        let events = events.as_str();
-        assert_limit(&rt, alloc, &Parts { events, ..LEAST }, want, "label")?;
+        assert_label(&rt, rt.alloc(), letter, count, want)?;
     }
-    let longer = letters(alloc, 'l', 300)?;
-    let long = letters(alloc, 'l', 250)?;
-    let events = format!(in alloc; "{{\"name\":\"{longer}\"}}")?;
-    let events = events.as_str();
-    assert_limit(&rt, alloc, &Parts { events, ..LEAST }, None, "a name")?;
-    let events = format!(in alloc;
+    Ok(())
+}
+
+#[test]
+fn a_name_is_not_measured_as_a_label(rt: HostRuntime) -> Result<(), Fail> {
+    let longer = letters(rt.alloc(), 'l', 300)?;
+    let events = format!(in rt.alloc(); "{{\"name\":\"{longer}\"}}")?;
+    assert_events(&rt, rt.alloc(), events.as_str(), None, "a name")?;
+    Ok(())
+}
+
+#[test]
+fn the_first_long_label_is_told(rt: HostRuntime) -> Result<(), Fail> {
+    let longer = letters(rt.alloc(), 'l', 300)?;
+    let long = letters(rt.alloc(), 'l', 250)?;
+    let events = format!(in rt.alloc();
         "{{\"name\":\"{longer}\",\"label\":\"{long}\"}},{{\"name\":\"b\",\"label\":\"{longer}\"}}"
     )?;
-    let events = events.as_str();
     let want = Some((LimitKind::Label, 250));
-    assert_limit(
-        &rt,
-        alloc,
-        &Parts { events, ..LEAST },
-        want,
-        "the first label",
-    )?;
+    assert_events(&rt, rt.alloc(), events.as_str(), want, "the first label")?;
     Ok(())
 }
 

@@ -208,25 +208,44 @@ fn listed(alloc: Global, before: &str, after: &str, count: u16) -> Result<String
     Ok(text)
 }
 
+// A graph of 1,024 events, each of this name with a number behind it.
+fn long_graph(alloc: Global, name: &str) -> Result<Nested, Fail> {
+    let node = format!(in alloc; "{{\"label\":\"\",\"name\":\"{name}")?;
+    let nodes = listed(alloc, node.as_str(), "\"}", 1_024)?;
+    let text = format!(in alloc; "{{\"events\":[{nodes}],\"relations\":[]}}")?;
+    graph(alloc, text.as_str(), Version::V1)
+}
+
+// The cover of that graph by 64 sites, each of this name with a number behind it, which own all events.
+fn long_cover(alloc: Global, name: &str) -> Result<String, Fail> {
+    let event = format!(in alloc; "\"{name}")?;
+    let owned = listed(alloc, event.as_str(), "\"", 1_024)?;
+    let site = format!(in alloc; "{{\"events\":[{owned}],\"site\":\"{name}")?;
+    let sites = listed(alloc, site.as_str(), "\"}", 64)?;
+    Ok(format!(in alloc; "[{sites}]")?)
+}
+
+// Whether the text is that of a cover of the graph.
+fn is_cover(alloc: Global, text: &str, nested: &Nested) -> Result<bool, Fail> {
+    let flat = nested.flatten(alloc)?;
+    Ok(read_cover_text(alloc, text.as_bytes(), nested, &flat)?.is_some())
+}
+
 #[test]
 fn the_longest_cover_is_read(rt: HostRuntime) -> Result<(), Fail> {
     let alloc = rt.alloc();
     // All names have 64 bytes.
     let name = "n".repeat(alloc, 60)?;
-    let node = format!(in alloc; "{{\"label\":\"\",\"name\":\"{name}")?;
-    let nodes = listed(alloc, node.as_str(), "\"}", 1_024)?;
-    let text = format!(in alloc; "{{\"events\":[{nodes}],\"relations\":[]}}")?;
-    let nested = graph(alloc, text.as_str(), Version::V1)?;
-    let flat = nested.flatten(alloc)?;
-    let owned = listed(alloc, format!(in alloc; "\"{name}")?.as_str(), "\"", 1_024)?;
-    let site = format!(in alloc; "{{\"events\":[{owned}],\"site\":\"{name}")?;
-    let sites = listed(alloc, site.as_str(), "\"}", 64)?;
-    let cover = format!(in alloc; "[{sites}]")?;
+    let nested = long_graph(alloc, name.as_str())?;
+    let mut cover = long_cover(alloc, name.as_str())?;
     same(&rt, &cover.len(), &MAX_BYTES, "cover.len()");
-    let found = read_cover_text(alloc, cover.as_bytes(), &nested, &flat)?;
-    assert!(rt; found.is_some());
-    let longer = format!(in alloc; "{cover} ")?;
-    let found = read_cover_text(alloc, longer.as_bytes(), &nested, &flat)?;
-    assert!(rt; found.is_none());
+    same(&rt, &is_cover(alloc, cover.as_str(), &nested)?, &true, "it");
+    cover.push_str(" ")?;
+    same(
+        &rt,
+        &is_cover(alloc, cover.as_str(), &nested)?,
+        &false,
+        "longer",
+    );
     Ok(())
 }
