@@ -61,10 +61,12 @@ def check_edits_that_are_named_are_there():
 
 
 def check_sources_that_are_named_are_there():
-    lost = []
+    # (by folder, since `out` may have far more files)
+    paths = [it for of in ("src", "specs", "proofs") for it in glob.glob(TOP + "/crates/*/" + of + "/**/*.*", recursive=True)]
+    names, lost = {os.path.basename(it) for it in paths}, []
     for page, text in pages().items():
         for path in re.findall(r"`(?:\w+/)*(\w+\.(?:rt|antt))`", text):
-            if not glob.glob(TOP + "/crates/*/**/" + path, recursive=True):
+            if path not in names:
                 lost.append("%s: %s" % (page, path))
         # (a definition's file, and the words that stand in it)
         for path, words in re.findall(r"`(\w+/(?:src|specs)/[\w/]+\.(?:rt|antt))`((?:[:,] `\w+`(?:, `\w+`)*)?)", text):
