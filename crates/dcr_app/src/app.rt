@@ -152,8 +152,8 @@ pub fn dcr<
     ensures loaded { (number : ℕ) → command_in words.now ≡ Some (Load number)
         → (Rose (O.write_faults output.old) (O.write_faults output.new) → ⊥) → IsOr Status.Done result.status }
 {
-    match command_of(words) {
-        None => say(output, b"usage\n", Status::Usage).over(door, disk, Vec::new(alloc)),
+    let (answer, disk) = match command_of(words) {
+        None => (say(output, b"usage\n", Status::Usage), disk),
         Some(Command::Run { workers, store }) => {
             // What the bytes of a case say, for the clauses on `run`, which run is the told one, and what a content stands
             // for.
@@ -162,7 +162,7 @@ pub fn dcr<
             one_list();
             no_cause();
             let own = Way::Run { workers };
-            run(rt, alloc, own, store, input, output, door, disk, gate)
+            return run(rt, alloc, own, store, input, output, door, disk, gate);
         }
         Some(
             Command::Serve {
@@ -176,18 +176,16 @@ pub fn dcr<
             one_list();
             no_cause();
             let links = Way::Serve { sessions, workers };
-            run(rt, alloc, links, store, input, output, door, disk, gate)
+            return run(rt, alloc, links, store, input, output, door, disk, gate);
         }
         Some(Command::Replay) => {
             // What the definition of the first wrong line says, for the clauses on `replay`.
             valid_is_report();
             a_text_has_one_verdict();
             the_first_wrong_line_is_told();
-            replay(alloc, input, output).over(door, disk, Vec::new(alloc))
+            (replay(alloc, input, output), disk)
         }
-        Some(Command::Load { number }) => {
-            let (answer, disk) = load(rt, alloc, number, output, disk, gate);
-            answer.over(door, disk, Vec::new(alloc))
-        }
-    }
+        Some(Command::Load { number }) => load(rt, alloc, number, output, disk, gate),
+    };
+    answer.over(door, disk, Vec::new(alloc))
 }

@@ -1,9 +1,9 @@
-use Rattle.std.proofs.Common.{◌≡◌, ℕ, Bool, Option, Some, IfSome, inl, inr, ap, subst, sym, ◌∙◌}
+use Rattle.std.proofs.Common.{◌≡◌, ◌⊎◌, ℕ, Bool, Option, Some, IfSome, inl, inr, ap, subst, sym, ◌∙◌}
 use Rattle.dcr_base.specs.Count.{Rose}
 use Rattle.dcr_base.specs.declared.status.Status.{Status}
-use Rattle.dcr_base.specs.declared.status.Status.TheVariants.{DoorFault}
+use Rattle.dcr_base.specs.declared.status.Status.TheVariants.{Done, DoorFault, Invalid, NoMemory, Usage, WriteFault}
 use Rattle.dcr_json.specs.Case.{case_in}
-use Rattle.dcr_app.specs.Answers.{EndsRun, EndsServing, IsAnsweredCase, IsAnsweredReport, IsServing, IsToldByOne}
+use Rattle.dcr_app.specs.Answers.{EndsRun, EndsServing, IsAnsweredCase, IsAnsweredReport, IsServing, IsToldByOne, SaysInvalid, SaysValid}
 use Rattle.dcr_app.specs.Command.{command_in}
 use Rattle.dcr_app.specs.Telling.{LeavesDoor, Telling, by_workers, doors_of, over_links}
 use Rattle.dcr_app.specs.declared.command.Command.{Command}
@@ -12,8 +12,10 @@ use Rattle.dcr_app.specs.declared.app.End.{End}
 use Rattle.dcr_app.proofs.CommandLemmas.{one_run, one_serving}
 use Rattle.dcr_app.proofs.FaultlessLemmas.{answered_case}
 use Rattle.dcr_app.proofs.LinksLemmas.{door_by, full_by, full_told, left_by, no_fewer_by, unasked_by}
-use Rattle.dcr_app.proofs.ReplayLemmas.{answered_report, says_invalid}
+use Rattle.dcr_app.proofs.ReplayLemmas.{answered_report, says_invalid, says_valid}
 use Rattle.dcr_app.proofs.RunLemmas.{done_throughout, told_by_one}
+use Rattle.dcr_app.proofs.TapeLemmas.{still_same}
+use Rattle.dcr_app.proofs.app.dcr.Goals.{in-None, in-Some-Load, in-Some-Replay}
 use Rattle.dcr_app.proofs.app.dcr.Goals as goal
 
 -- a run is never told as one whose door failed
@@ -135,15 +137,61 @@ returns-in-Some-Serve-clause-served g c = λ sessions workers store is reads wri
     had took end.status (λ e. reads (run.read_counted e)) (λ e. writes (run.write_counted e)) (λ e. disks (run.disk_counted e)) (λ e. door_holds (serving_door_by g c e))
     EndsServing (λ e. inr e) (λ e full. inl e) c.in-Some-Serve.store left end.closed run.answers)
 
-pub returns-in-Some-Replay-clause-invalid : goal.returns-in-Some-Replay-clause-invalid
-returns-in-Some-Replay-clause-invalid g c = λ invalid.
-    let status = (ap (λ (e : End _ _ _ _). e.status) c.over-in-Some-Replay.ensures) in
-    says_invalid (g.I.Source.left c.args.input.now) (g.O.Sink.taken c.args.output.now) (g.O.Sink.taken c.replay.new.output) c.replay.result.status
-    c.valid_is_report.ensures c.a_text_has_one_verdict.ensures c.the_first_wrong_line_is_told.ensures (sym status ∙ invalid) c.replay.ensures.answers
+-- only a report is said to be invalid
+no_verdict : (status : Status) → ((status ≡ Usage) ⊎ (status ≡ WriteFault)) ⊎ ((status ≡ Done) ⊎ ((status ≡ WriteFault) ⊎ (status ≡ NoMemory)))
+    → status ≡ Invalid → ⊥
+no_verdict status (inl (inl is)) invalid = absurd cc
+no_verdict status (inl (inr is)) invalid = absurd cc
+no_verdict status (inr (inl is)) invalid = absurd cc
+no_verdict status (inr (inr (inl is))) invalid = absurd cc
+no_verdict status (inr (inr (inr is))) invalid = absurd cc
 
-pub returns-in-Some-Replay-clause-checked : goal.returns-in-Some-Replay-clause-checked
-returns-in-Some-Replay-clause-checked g c = λ _ reads writes.
-    let status = (ap (λ (e : End _ _ _ _). e.status) c.over-in-Some-Replay.ensures) in let left = g.I.Source.left c.args.input.now in
-    subst (λ (s : Status). IfSome left (λ bytes. IsAnsweredReport bytes s)) (sym status)
-    (answered_report left (g.O.Sink.taken c.args.output.now) (g.O.Sink.taken c.replay.new.output) c.replay.result.status c.a_text_has_one_verdict.ensures
-    (λ is. reads (c.replay.ensures.read_counted is)) (λ is. writes (c.replay.ensures.write_counted is)) c.replay.ensures.answers)
+-- a command that runs no case of a file ends as its own answer tells
+ended : (g : _) (c : goal.Joined-drop g) → c.over.result.status ≡ c.match-command_of.answer.0.status
+ended g c = ap (λ (e : End _ _ _ _). e.status) c.over.ensures
+
+-- and hands its disk on
+handed : (g : _) (c : goal.Joined-drop g) → c.over.result.disk ≡ c.args.disk
+handed g c = ap (λ (e : End _ _ _ _). e.disk) c.over.ensures ∙ elim c.match-command_of.branch [
+  | in-Some-Replay w ↦ ap (λ answer. answer.1) w.answer-is
+  | in-Some-Load w ↦ ap (λ answer. answer.1) w.answer-is ∙ w.load.ensures.disk
+  | in-None w ↦ ap (λ answer. answer.1) w.answer-is
+]
+
+pub returns-clause-still : goal.returns-clause-still
+returns-clause-still g c = λ _. still_same g.D.Disk.view c.args.disk c.over.result.disk (handed g c)
+
+pub returns-clause-valid : goal.returns-clause-valid
+returns-clause-valid g c = λ replays done. elim c.match-command_of.branch [
+  | in-Some-Replay w ↦
+      let status = sym (ap (λ answer. answer.0.status) w.answer-is) ∙ (sym (ended g c) ∙ done) in
+      subst (λ o. SaysValid (g.I.Source.left c.args.input.now) (g.O.Sink.taken c.args.output.now) (g.O.Sink.taken o)) (sym w.output-is)
+      (says_valid (g.I.Source.left c.args.input.now) (g.O.Sink.taken c.args.output.now) (g.O.Sink.taken w.replay.new.output) w.replay.result.status
+      w.valid_is_report.ensures status w.replay.ensures.answers)
+  | in-Some-Load w ↦ absurd (let spelled = c.command_of.ensures.spelled in let is = w.in-Some-Load.is in let load = w.in-Some-Load.field-0-is in cc)
+  | in-None w ↦ absurd (let spelled = c.command_of.ensures.spelled in let is = w.in-None.is in cc)
+]
+
+pub returns-clause-invalid : goal.returns-clause-invalid
+returns-clause-invalid g c = λ invalid. elim c.match-command_of.branch [
+  | in-Some-Replay w ↦
+      let status = sym (ap (λ answer. answer.0.status) w.answer-is) ∙ (sym (ended g c) ∙ invalid) in
+      subst (λ o. SaysInvalid (g.I.Source.left c.args.input.now) (g.O.Sink.taken c.args.output.now) (g.O.Sink.taken o)) (sym w.output-is)
+      (says_invalid (g.I.Source.left c.args.input.now) (g.O.Sink.taken c.args.output.now) (g.O.Sink.taken w.replay.new.output) w.replay.result.status
+      w.valid_is_report.ensures w.a_text_has_one_verdict.ensures w.the_first_wrong_line_is_told.ensures status w.replay.ensures.answers)
+  | in-Some-Load w ↦ absurd (no_verdict _ (inr w.load.ensures.ends) (sym (ap (λ answer. answer.0.status) w.answer-is) ∙ (sym (ended g c) ∙ invalid)))
+  | in-None w ↦ absurd (no_verdict _ (inl w.say.ensures.status) (sym (ap (λ answer. answer.0.status) w.answer-is) ∙ (sym (ended g c) ∙ invalid)))
+]
+
+pub returns-clause-checked : goal.returns-clause-checked
+returns-clause-checked g c = λ replays reads writes. elim c.match-command_of.branch [
+  | in-Some-Replay w ↦
+      let left = g.I.Source.left c.args.input.now in
+      subst (λ (s : Status). IfSome left (λ bytes. IsAnsweredReport bytes s)) (sym (ended g c ∙ ap (λ answer. answer.0.status) w.answer-is))
+      (answered_report left (g.O.Sink.taken c.args.output.now) (g.O.Sink.taken w.replay.new.output) w.replay.result.status w.a_text_has_one_verdict.ensures
+      (λ is. reads (subst (λ i. Rose (g.I.Source.read_faults c.args.input.now) (g.I.Source.read_faults i)) (sym w.input-is) (w.replay.ensures.read_counted is)))
+      (λ is. writes (subst (λ o. Rose (g.O.Sink.write_faults c.args.output.now) (g.O.Sink.write_faults o)) (sym w.output-is) (w.replay.ensures.write_counted is)))
+      w.replay.ensures.answers)
+  | in-Some-Load w ↦ absurd (let spelled = c.command_of.ensures.spelled in let is = w.in-Some-Load.is in let load = w.in-Some-Load.field-0-is in cc)
+  | in-None w ↦ absurd (let spelled = c.command_of.ensures.spelled in let is = w.in-None.is in cc)
+]
