@@ -32,13 +32,13 @@ use Rattle.dcr_shape.specs.declared.written.Written.{Written}
 use Rattle.dcr_shape.proofs.ContentLemmas.{contents_law as contained}
 use Rattle.dcr_limit.specs.Words.{HasShortLabel, KeepsLimit}
 use Rattle.dcr_limit.proofs.LawLemmas.{limits_law}
-use Rattle.dcr_nodes.specs.Contents.{IsNodeOf, AreNodes}
-use Rattle.dcr_nodes.specs.Nodes.{names_of as event_names, names_in, tree_in, marks_in, relations_in, nodes_in}
-use Rattle.dcr_nodes.specs.Words.{OfEventName}
-use Rattle.dcr_nodes.specs.declared.nodes.Nodes.{Nodes}
-use Rattle.dcr_nodes.proofs.ContentLemmas.{contents_law as nodes_written}
-use Rattle.dcr_nodes.proofs.KindLemmas.{kinds_of_version}
-use Rattle.dcr_nodes.proofs.NodeLemmas.{is_nested}
+use Rattle.dcr_written.specs.Contents.{IsNodeOf, AreNodes}
+use Rattle.dcr_written.specs.Nodes.{names_of as event_names, names_in, tree_in, marks_in, relations_in, nodes_in}
+use Rattle.dcr_written.specs.Words.{OfEventName}
+use Rattle.dcr_written.specs.declared.nodes.Nodes.{Nodes}
+use Rattle.dcr_written.proofs.ContentLemmas.{contents_law as nodes_written}
+use Rattle.dcr_written.proofs.KindLemmas.{kinds_of_version}
+use Rattle.dcr_written.proofs.NodeLemmas.{is_nested}
 use Rattle.dcr_cover.specs.Refusals.{AreCover}
 use Rattle.dcr_reading.specs.Accepted.{AreAllNames, IsAcceptedGraph, IsAcceptedCover}
 use Rattle.dcr_reading.specs.Lent.{texts_of}

@@ -8,7 +8,7 @@ use Rattle.std.proofs.lemmas.Option.{same_Some}
 use Rattle.dcr_shape.specs.Stages.{each_from}
 use Rattle.dcr_shape.proofs.EachLemmas.{OneRead, went, halted, EachRead, all_read, first_not, each_read_from}
 use Rattle.dcr_shape.specs.Order.{EachAt, FailsFirst}
-use Rattle.dcr_nodes.proofs.NodeLemmas.{from_map}
+use Rattle.dcr_written.proofs.NodeLemmas.{from_map}
 use Rattle.dcr_journal.specs.Run.{IsInRange}
 use Rattle.dcr_journal.specs.declared.call.Call.{Call}
 use Rattle.dcr_line.specs.CallLine.{call_in}

@@ -39,7 +39,7 @@ use Rattle.dcr_shape.proofs.ContentLemmas.{contents_law as contained}
 use Rattle.dcr_limit.specs.Limits.{limits_in}
 use Rattle.dcr_limit.specs.Words.{KeepsLimit}
 use Rattle.dcr_limit.proofs.LawLemmas.{limits_law}
-use Rattle.dcr_nodes.specs.declared.nodes.Nodes.{Nodes}
+use Rattle.dcr_written.specs.declared.nodes.Nodes.{Nodes}
 use Rattle.dcr_cover.specs.Refusals.{AreCover}
 use Rattle.dcr_cover.specs.declared.text.CoverStop.{CoverStop}
 use Rattle.dcr_cover.proofs.RefusalLemmas.{cover_from_told}

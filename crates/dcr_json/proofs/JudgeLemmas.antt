@@ -19,10 +19,10 @@ use Rattle.dcr_shape.specs.declared.stop.ReadStop.{ReadStop}
 use Rattle.dcr_shape.specs.declared.written.Written.{Written as WrittenFile}
 use Rattle.dcr_limit.specs.Limits.{limits_in}
 use Rattle.dcr_limit.proofs.LawLemmas.{limits_law}
-use Rattle.dcr_nodes.specs.Nodes.{names_in, tree_in, marks_in, relations_in, names_of, nodes_in}
-use Rattle.dcr_nodes.specs.Opening.{opening_in}
-use Rattle.dcr_nodes.specs.declared.nodes.Nodes.{Nodes}
-use Rattle.dcr_nodes.proofs.StageLemmas.{ok_parts, from_length}
+use Rattle.dcr_written.specs.Nodes.{names_in, tree_in, marks_in, relations_in, names_of, nodes_in}
+use Rattle.dcr_written.specs.Opening.{opening_in}
+use Rattle.dcr_written.specs.declared.nodes.Nodes.{Nodes}
+use Rattle.dcr_written.proofs.StageLemmas.{ok_parts, from_length}
 use Rattle.dcr_cover.specs.Told.{Written, atom_count, has_bad_name, first_unknown, site_at, site_stop, first_stop, first_uncovered, owners_told, told_by, cover_told}
 use Rattle.dcr_cover.specs.declared.text.CoverStop.{CoverStop}
 use Rattle.dcr_cover.specs.declared.text.CoverStop.TheVariants.{SiteName, Owned, Uncovered, NoMemory}

@@ -13,11 +13,11 @@ use Rattle.dcr_shape.specs.Order.{EachAt}
 use Rattle.dcr_shape.specs.Parts.{Event, no_event}
 use Rattle.dcr_shape.specs.declared.stop.ReadStop.{ReadStop}
 use Rattle.dcr_shape.specs.declared.written.Written.{Written}
-use Rattle.dcr_nodes.specs.Nodes.{names_in, tree_in, marks_in, relations_in, names_of, nodes_in}
-use Rattle.dcr_nodes.specs.Words.{HasNewName, OfEventName}
-use Rattle.dcr_nodes.specs.declared.nodes.Nodes.{Nodes}
-use Rattle.dcr_nodes.proofs.LawLemmas.{nodes_law}
-use Rattle.dcr_nodes.proofs.NodeLemmas.{distinct_names, tree_names}
+use Rattle.dcr_written.specs.Nodes.{names_in, tree_in, marks_in, relations_in, names_of, nodes_in}
+use Rattle.dcr_written.specs.Words.{HasNewName, OfEventName}
+use Rattle.dcr_written.specs.declared.nodes.Nodes.{Nodes}
+use Rattle.dcr_written.proofs.LawLemmas.{nodes_law}
+use Rattle.dcr_written.proofs.NodeLemmas.{distinct_names, tree_names}
 use Rattle.dcr_cover.specs.Refusals.{AreCover}
 use Rattle.dcr_cover.specs.Told.{site_at}
 use Rattle.dcr_line.specs.Known.{AreNames}

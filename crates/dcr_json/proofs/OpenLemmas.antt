@@ -11,7 +11,7 @@ use Rattle.dcr_nest.specs.Tree.{atoms}
 use Rattle.dcr_shape.specs.Contents.{AreBeside, IsEventObject}
 use Rattle.dcr_shape.specs.Parts.{Event}
 use Rattle.dcr_shape.specs.Words.{graph_elements}
-use Rattle.dcr_nodes.specs.Contents.{IsNodeOf, IsOpening}
+use Rattle.dcr_written.specs.Contents.{IsNodeOf, IsOpening}
 use Rattle.dcr_json.specs.Opens.{OpensAs, OpensAsWritten, OpeningIsWritten}
 use Rattle.dcr_json.proofs.RefusalLemmas.{cases_law}
 

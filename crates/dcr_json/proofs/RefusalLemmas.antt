@@ -21,11 +21,11 @@ use Rattle.dcr_shape.proofs.ShapeLemmas.{shape_law}
 use Rattle.dcr_limit.specs.Limits.{limits_in}
 use Rattle.dcr_limit.specs.Words.{KeepsLimit}
 use Rattle.dcr_limit.proofs.LawLemmas.{limits_law}
-use Rattle.dcr_nodes.specs.Nodes.{nodes_in}
-use Rattle.dcr_nodes.specs.Words.{Refusal, OfEventName, OfParent, OfMarkOnNest, OfRelationEnd, refused as node_stop}
-use Rattle.dcr_nodes.specs.declared.nodes.Nodes.{Nodes}
-use Rattle.dcr_nodes.proofs.ContentLemmas.{contents_law as nodes_written}
-use Rattle.dcr_nodes.proofs.LawLemmas.{nodes_law}
+use Rattle.dcr_written.specs.Nodes.{nodes_in}
+use Rattle.dcr_written.specs.Words.{Refusal, OfEventName, OfParent, OfMarkOnNest, OfRelationEnd, refused as node_stop}
+use Rattle.dcr_written.specs.declared.nodes.Nodes.{Nodes}
+use Rattle.dcr_written.proofs.ContentLemmas.{contents_law as nodes_written}
+use Rattle.dcr_written.proofs.LawLemmas.{nodes_law}
 use Rattle.dcr_cover.specs.Told.{Written as Sited, first_unknown, site_at, has_bad_name, site_stop, first_stop, first_uncovered, owners_told, told_by, cover_told}
 use Rattle.dcr_cover.specs.declared.text.CoverStop.{CoverStop}
 use Rattle.dcr_cover.specs.declared.text.CoverStop.TheVariants as cover

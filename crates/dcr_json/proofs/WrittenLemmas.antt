@@ -25,12 +25,12 @@ use Rattle.dcr_shape.specs.declared.stop.ReadStop.{ReadStop}
 use Rattle.dcr_shape.specs.declared.written.Written.{Written}
 use Rattle.dcr_limit.specs.Limits.{atoms_in}
 use Rattle.dcr_limit.specs.Words.{HasShortLabel}
-use Rattle.dcr_nodes.specs.Contents.{IsNodeOf, IsPairOf, IsOpening, AreNodes}
-use Rattle.dcr_nodes.specs.Nodes.{names_of as event_names, names_in, tree_in, marks_in, relations_in, nodes_in}
-use Rattle.dcr_nodes.specs.Words.{Refusal, OfEventName, OfParent, OfMarkOnNest, OfRelationEnd, IsEarlierName, IsEventName, HasNewName, HasEarlierParent, HasNoMarkAsParent, HasEnds, Holds}
-use Rattle.dcr_nodes.specs.declared.nodes.Nodes.{Nodes}
-use Rattle.dcr_nodes.proofs.ContentLemmas.{contents_law as nodes_written}
-use Rattle.dcr_nodes.proofs.NodeLemmas.{as_many_atoms}
+use Rattle.dcr_written.specs.Contents.{IsNodeOf, IsPairOf, IsOpening, AreNodes}
+use Rattle.dcr_written.specs.Nodes.{names_of as event_names, names_in, tree_in, marks_in, relations_in, nodes_in}
+use Rattle.dcr_written.specs.Words.{Refusal, OfEventName, OfParent, OfMarkOnNest, OfRelationEnd, IsEarlierName, IsEventName, HasNewName, HasEarlierParent, HasNoMarkAsParent, HasEnds, Holds}
+use Rattle.dcr_written.specs.declared.nodes.Nodes.{Nodes}
+use Rattle.dcr_written.proofs.ContentLemmas.{contents_law as nodes_written}
+use Rattle.dcr_written.proofs.NodeLemmas.{as_many_atoms}
 use Rattle.dcr_line.specs.Line.{name_of}
 use Rattle.dcr_reading.specs.Accepted.{IsAcceptedGraph}
 use Rattle.dcr_reading.proofs.GraphLemmas.{as_written, relation_of, relations_of, version_back}

@@ -5,7 +5,7 @@ use Rattle.dcr_size.specs.Laws.{json_in}
 use Rattle.dcr_shape.specs.Case.{shape_in}
 use Rattle.dcr_shape.specs.Stages.{◌>>=◌}
 use Rattle.dcr_limit.specs.Limits.{limits_in}
-use Rattle.dcr_nodes.specs.Nodes.{nodes_in}
+use Rattle.dcr_written.specs.Nodes.{nodes_in}
 use Rattle.dcr_json.specs.Refusing.{found_or, lifted}
 use Rattle.dcr_json.specs.Judged.{Spelled, case_told}
 use Rattle.dcr_json.specs.declared.case.CaseStop.{CaseStop}

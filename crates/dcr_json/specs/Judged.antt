@@ -9,7 +9,7 @@ use Rattle.dcr_proj.specs.CoverValue.{Owners}
 use Rattle.dcr_shape.specs.Parts.{Site}
 use Rattle.dcr_shape.specs.Stages.{◌>>=◌, each_from}
 use Rattle.dcr_shape.specs.declared.written.Written.{Written}
-use Rattle.dcr_nodes.specs.declared.nodes.Nodes.{Nodes}
+use Rattle.dcr_written.specs.declared.nodes.Nodes.{Nodes}
 use Rattle.dcr_cover.specs.Told.{cover_told}
 use Rattle.dcr_cover.specs.declared.text.CoverStop.{CoverStop}
 use Rattle.dcr_cover.specs.declared.text.CoverStop.TheVariants as cover

@@ -16,10 +16,10 @@ use Rattle.dcr_shape.specs.declared.stop.LimitKind.{LimitKind}
 use Rattle.dcr_shape.specs.declared.written.Written.{Written}
 use Rattle.dcr_limit.specs.Laws.{rank as limit_rank}
 use Rattle.dcr_limit.specs.Words.{KeepsLimit, BreaksLimit}
-use Rattle.dcr_nodes.specs.Contents.{AreNodes}
-use Rattle.dcr_nodes.specs.Laws.{rank as node_rank}
-use Rattle.dcr_nodes.specs.Words.{Refusal, OfEventName, OfParent, OfMarkOnNest, OfRelationEnd, Holds as NodesHold, FailsAt as NodesFailAt}
-use Rattle.dcr_nodes.specs.declared.nodes.Nodes.{Nodes}
+use Rattle.dcr_written.specs.Contents.{AreNodes}
+use Rattle.dcr_written.specs.Laws.{rank as node_rank}
+use Rattle.dcr_written.specs.Words.{Refusal, OfEventName, OfParent, OfMarkOnNest, OfRelationEnd, Holds as NodesHold, FailsAt as NodesFailAt}
+use Rattle.dcr_written.specs.declared.nodes.Nodes.{Nodes}
 use Rattle.dcr_cover.specs.Refusals.{AreCover, IsUncovered, RefusesName, RefusesText}
 use Rattle.dcr_journal.specs.Run.{IsInRange}
 use Rattle.dcr_journal.specs.declared.call.Call.{Call}

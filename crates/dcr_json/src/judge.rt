@@ -2,7 +2,7 @@ ghost use Rattle.std.specs.Prelude.{◌≡◌, ◌≢◌, ◌<◌, length, IfOk,
 ghost use Rattle.dcr_graph.specs.Pairs.{first_clash};
 ghost use Rattle.dcr_limit.specs.Limits.{limits_in};
 ghost use Rattle.dcr_nest.specs.FlatRelation.{IsFlattening, flat_relation};
-ghost use Rattle.dcr_nodes.specs.Nodes.{nodes_in};
+ghost use Rattle.dcr_written.specs.Nodes.{nodes_in};
 ghost use Rattle.dcr_reading.specs.Accepted.{atom_names};
 ghost use Rattle.dcr_json.specs.Built.{case_of, IsCase};
 ghost use Rattle.dcr_json.specs.Judged.{case_told, name_at, unclashed};
@@ -13,10 +13,10 @@ use crate::sites::read_cover;
 use crate::{Case, CaseStop, SessionList};
 use dcr_graph::{Graph, GraphStop, Name};
 use dcr_nest::Nested;
-use dcr_nodes::Nodes;
 use dcr_reading::{see_cover, see_graph};
 use dcr_set::EventId;
 use dcr_shape::Written;
+use dcr_written::Nodes;
 use std::alloc::Global;
 
 // The case that is written in a file within the limits and with these nodes, or what it is refused for: a

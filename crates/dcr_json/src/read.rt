@@ -9,9 +9,9 @@ ghost use Rattle.dcr_json.specs.Refusing.{Says, stop_of};
 use crate::judge::judge;
 use crate::{Case, CaseStop};
 use dcr_limit::try_limits;
-use dcr_nodes::read_nodes;
 use dcr_reading::read_json;
 use dcr_shape::read_shape;
+use dcr_written::read_nodes;
 use serde_json::Value;
 use std::alloc::Global;
 

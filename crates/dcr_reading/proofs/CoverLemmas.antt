@@ -18,7 +18,7 @@ use Rattle.dcr_nest.specs.Nest.{Nest, IsNested, names_of, parents_of}
 use Rattle.dcr_nest.specs.Tree.{Parents, AreEarlier, parent_of, is_at_or_below, is_parent, atoms}
 use Rattle.dcr_nest.specs.declared.node.Node.{Node}
 use Rattle.dcr_nest.proofs.FlatLemmas.{all_atoms}
-use Rattle.dcr_nodes.proofs.NameLemmas.{any_true}
+use Rattle.dcr_written.proofs.NameLemmas.{any_true}
 use Rattle.dcr_nest.proofs.AtomLemmas.{atoms-within, atoms-ascend, picked-passes}
 use Rattle.dcr_nest.proofs.TreeLemmas.{meets_at_top, meets_once, parent_within}
 use Rattle.dcr_proj.specs.CoverValue.{Owners}

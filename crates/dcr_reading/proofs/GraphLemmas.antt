@@ -36,11 +36,11 @@ use Rattle.dcr_shape.specs.declared.written.Written.{Written}
 use Rattle.dcr_limit.specs.Limits.{limits_in, names_parent}
 use Rattle.dcr_limit.specs.Words.{HasShortLabel, KeepsLimit}
 use Rattle.dcr_limit.proofs.LawLemmas.{limits_law}
-use Rattle.dcr_nodes.specs.Nodes.{names_of as event_names, number_before, name_in, names_in, parent_in, node_with, node_in, tree_in, unmarked_in, marks_in, pair_in, relations_in, nodes_in, version_in}
-use Rattle.dcr_nodes.specs.Opening.{opening_in}
-use Rattle.dcr_nodes.specs.declared.nodes.Nodes.{Nodes}
-use Rattle.dcr_nodes.proofs.NameLemmas.{before_found, name_new}
-use Rattle.dcr_nodes.proofs.NodeLemmas.{as_many_atoms, mark_passed}
+use Rattle.dcr_written.specs.Nodes.{names_of as event_names, number_before, name_in, names_in, parent_in, node_with, node_in, tree_in, unmarked_in, marks_in, pair_in, relations_in, nodes_in, version_in}
+use Rattle.dcr_written.specs.Opening.{opening_in}
+use Rattle.dcr_written.specs.declared.nodes.Nodes.{Nodes}
+use Rattle.dcr_written.proofs.NameLemmas.{before_found, name_new}
+use Rattle.dcr_written.proofs.NodeLemmas.{as_many_atoms, mark_passed}
 use Rattle.dcr_graph.specs.KindText.{kind_text}
 use Rattle.dcr_canon.specs.GraphText.{name_value, parent_member, node_value, event_values, relation_value, relation_values, graph_value}
 use Rattle.dcr_reading.specs.Accepted.{AreAllNames, IsAcceptedGraph}

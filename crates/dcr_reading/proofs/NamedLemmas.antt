@@ -5,7 +5,7 @@ use Rattle.std.proofs.lemmas.List.{get_or-take, length-take}
 use Rattle.std.proofs.lemmas.Slice.Eq.{bytes_eq-Decides}
 use Rattle.dcr_set.proofs.LeastLemmas.{least-from, least-none_from}
 use Rattle.dcr_graph.specs.Names.{number_of, AreDistinct}
-use Rattle.dcr_nodes.specs.Nodes.{number_before}
+use Rattle.dcr_written.specs.Nodes.{number_before}
 
 -- a name has its place for its number
 pub named : (names : List (List ℕ)) (p : ℕ) → AreDistinct names → p < length names → number_of names (get_or names p []) ≡ Some p

@@ -10,8 +10,8 @@ use Rattle.dcr_shape.specs.Stages.{◌>>=◌}
 use Rattle.dcr_shape.specs.declared.stop.ReadStop.{ReadStop}
 use Rattle.dcr_shape.specs.declared.written.Written.{Written}
 use Rattle.dcr_limit.specs.Limits.{limits_in}
-use Rattle.dcr_nodes.specs.Nodes.{nodes_in}
-use Rattle.dcr_nodes.specs.declared.nodes.Nodes.{Nodes}
+use Rattle.dcr_written.specs.Nodes.{nodes_in}
+use Rattle.dcr_written.specs.declared.nodes.Nodes.{Nodes}
 use Rattle.dcr_reading.specs.Lent.{texts_of}
 
 -- what is written within the limits

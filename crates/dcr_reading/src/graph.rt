@@ -16,9 +16,9 @@ use crate::value::{MAX_BYTES, read_json};
 use dcr_canon::{canonical_texts_are_json, graph_text};
 use dcr_graph::GraphStop;
 use dcr_nest::{Nested, Version};
-use dcr_nodes::{Nodes, read_nodes};
 use dcr_set::NoMemory;
 use dcr_shape::ReadStop;
+use dcr_written::{Nodes, read_nodes};
 use serde_json::Value;
 use std::alloc::Global;
 

@@ -5,13 +5,12 @@ use Rattle.std.proofs.lemmas.Bool.{cases_lt, ne_eqb}
 use Rattle.std.proofs.lemmas.List.{get_or-replicate, get_or_past, length-replicate}
 use Rattle.dcr_set.specs.Bits.{bit}
 use Rattle.dcr_set.specs.Least.{least}
-use Rattle.dcr_set.specs.EventSet.{has, those, no_event, with_event, without_event, union, difference}
+use Rattle.dcr_set.specs.EventSet.{has, those, no_event, with_event, without_event}
 use Rattle.dcr_set.specs.EventSetModel.{set_of_words, FitsRoom}
 use Rattle.dcr_set.specs.declared.set.EventSet.TheInside.{Inside}
 use Rattle.dcr_set.proofs.BitLemmas.{bit_digit, digit, digit-zero}
 use Rattle.dcr_set.proofs.LeastLemmas.{least-ext}
 use Rattle.dcr_set.proofs.SetLemmas.{has-those, has_past, has_past-those, length-those, same_set}
-use Rattle.dcr_set.proofs.ToldLemmas.{joined_told, told_by_members}
 
 -- the room is the set's, and there is a bit for each member and no other
 pub record Stands (ws : List ℕ) (room : ℕ) (s : List Bool) : Type 0 where
@@ -49,32 +48,6 @@ combined f at_none {ws = ws} {xs = xs} {a = a} {b = b} h i rooms bits = record {
   members = λ k. bits k ∙ ap (λ t. f t (bit xs k)) (h.members k) ∙ ap (f (has a k)) (i.members k)
       ∙ sym (has-those_all (length a) (λ j. f (has a j) (has b j)) (λ j past. ap (λ t. f t (has b j)) (has_past a j past) ∙ ap (f false) (has_past b j (omega arith)) ∙ at_none) k);
 }
-
--- a test on each bit of three sets of words
-pub combined_three : (f : Bool → Bool → Bool → Bool) → f false false false ≡ false → {ws xs zs ys : List ℕ} {r q t : ℕ} {a b c : List Bool}
-    → Stands ws r a → Stands xs q b → Stands zs t c → length a ≡ length b → length a ≡ length c
-    → ((k : ℕ) → bit ys k ≡ f (bit ws k) (bit xs k) (bit zs k)) → Stands ys r (those (length a) (λ k. f (has a k) (has b k) (has c k)))
-combined_three f at_none {ws = ws} {xs = xs} {zs = zs} {a = a} {b = b} {c = c} h i j room also bits = record {
-  room_is = length-those (length a) (λ k. f (has a k) (has b k) (has c k)) ∙ h.room_is;
-  most = h.most;
-  members = λ k. bits k ∙ ap (λ t. f t (bit xs k) (bit zs k)) (h.members k) ∙ ap (λ t. f (has a k) t (bit zs k)) (i.members k) ∙ ap (f (has a k) (has b k)) (j.members k)
-      ∙ sym (has-those_all (length a) (λ n. f (has a n) (has b n) (has c n)) (λ n past.
-      ap (λ t. f t (has b n) (has c n)) (has_past a n past) ∙ ap (λ t. f false t (has c n)) (has_past b n (omega arith))
-      ∙ ap (f false false) (has_past c n (omega arith)) ∙ at_none) k);
-}
-
--- words have no bit from the room of another set on that has as much room
-pub clear_from : {ws xs : List ℕ} {r q : ℕ} {a b : List Bool} → Stands ws r a → Stands xs q b → length a ≡ length b → (k : ℕ) → r ≤ k → bit xs k ≡ false
-clear_from {b = b} h i rooms k past = i.members k ∙ has_past b k (let e = h.room_is in omega arith)
-
--- what is taken out of a set and what is added then, as one test
-pub union-difference : (a b c : List Bool) → length a ≡ length c → union (difference a b) c ≡ those (length a) (λ k. (has a k && not (has b k)) || has c k)
-union-difference a b c rooms =
-    joined_told (length a) (difference a b) (λ k. has a k && not (has b k)) refl c (has c) (told_by_members (length a) c (sym rooms)) (λ x y. x || y)
-
-pub difference-union : (a b c : List Bool) → length a ≡ length c → difference (union a b) c ≡ those (length a) (λ k. (has a k || has b k) && not (has c k))
-difference-union a b c rooms =
-    joined_told (length a) (union a b) (λ k. has a k || has b k) refl c (has c) (told_by_members (length a) c (sym rooms)) (λ x y. x && not y)
 
 -- one bit is set
 pub added : {ws ys : List ℕ} {r : ℕ} {a : List Bool} (n e : ℕ) → n ≡ e → Stands ws r a → e < length a

@@ -102,26 +102,6 @@ impl EventSet {
         words::keep(&mut self.words, &other.words, self.room);
     }
 
-    /// Takes out all of `out`, and then adds all of `into`.
-    pub fn replace_with(&mut self, out: &EventSet, into: &EventSet)
-        requires out { length self.old ≡ length out.now }
-        requires into { length self.old ≡ length into.now }
-        ensures replaced { self.new ≡ union (difference self.old out.now) into.now }
-        ensures room { length self.new ≡ length self.old }
-    {
-        words::replace(&mut self.words, &out.words, &into.words, self.room);
-    }
-
-    /// Adds all of `into`, and then takes out all of `out`.
-    pub fn unite_without(&mut self, into: &EventSet, out: &EventSet)
-        requires into { length self.old ≡ length into.now }
-        requires out { length self.old ≡ length out.now }
-        ensures left { self.new ≡ difference (union self.old into.now) out.now }
-        ensures room { length self.new ≡ length self.old }
-    {
-        words::unite_without(&mut self.words, &into.words, &out.words, self.room);
-    }
-
     /// What is in one or the other.
     pub fn joined(&self, other: &EventSet) -> EventSet
         requires { length self.now ≡ length other.now }

@@ -80,62 +80,6 @@ fn keep_below(words: &mut [u64; 16], other: &[u64; 16], count: usize)
     }
 }
 
-/// The bits of `words` that `out` hasn't, and those of `into`.
-pub fn replace(words: &mut [u64; 16], out: &[u64; 16], into: &[u64; 16], room: u16)
-    requires out { (k : ℕ) → room ≤ k → bit out.now k ≡ false }
-    requires into { (k : ℕ) → room ≤ k → bit into.now k ≡ false }
-    ensures len { length words.new ≡ 16 }
-    ensures bits { (k : ℕ) → bit words.new k ≡ ((bit words.old k && not (bit out.now k)) || bit into.now k) }
-{
-    if room <= 256 {
-        replace_below(words, out, into, 4);
-    } else {
-        replace_below(words, out, into, 16);
-    }
-}
-
-#[inline(always)]
-fn replace_below(words: &mut [u64; 16], out: &[u64; 16], into: &[u64; 16], count: usize)
-    requires count { count ≤ 16 }
-    requires out { (k : ℕ) → 64 * count ≤ k → bit out.now k ≡ false }
-    requires into { (k : ℕ) → 64 * count ≤ k → bit into.now k ≡ false }
-    ensures len { length words.new ≡ 16 }
-    ensures bits { (k : ℕ) → bit words.new k ≡ ((bit words.old k && not (bit out.now k)) || bit into.now k) }
-{
-    for i in 0..count {
-        let cleared = out[i];
-        words[i] = (words[i] & !cleared) | into[i];
-    }
-}
-
-/// The bits of `words` or of `into` that `out` hasn't.
-pub fn unite_without(words: &mut [u64; 16], into: &[u64; 16], out: &[u64; 16], room: u16)
-    requires into { (k : ℕ) → room ≤ k → bit into.now k ≡ false }
-    requires out { (k : ℕ) → room ≤ k → bit out.now k ≡ false }
-    ensures len { length words.new ≡ 16 }
-    ensures bits { (k : ℕ) → bit words.new k ≡ ((bit words.old k || bit into.now k) && not (bit out.now k)) }
-{
-    if room <= 256 {
-        unite_without_below(words, into, out, 4);
-    } else {
-        unite_without_below(words, into, out, 16);
-    }
-}
-
-#[inline(always)]
-fn unite_without_below(words: &mut [u64; 16], into: &[u64; 16], out: &[u64; 16], count: usize)
-    requires count { count ≤ 16 }
-    requires into { (k : ℕ) → 64 * count ≤ k → bit into.now k ≡ false }
-    requires out { (k : ℕ) → 64 * count ≤ k → bit out.now k ≡ false }
-    ensures len { length words.new ≡ 16 }
-    ensures bits { (k : ℕ) → bit words.new k ≡ ((bit words.old k || bit into.now k) && not (bit out.now k)) }
-{
-    for i in 0..count {
-        let cleared = out[i];
-        words[i] = (words[i] | into[i]) & !cleared;
-    }
-}
-
 /// Sets bit `e`.
 pub fn set_bit(words: &mut [u64; 16], e: u16)
     requires { e < 1024 }

@@ -2,7 +2,7 @@ use Rattle.std.proofs.Common.{Ok, sym, ap, ◌∙◌, arith, rules}
 use Rattle.dcr_json.specs.Judged.{call_told}
 use Rattle.dcr_json.specs.Refusing.{found_or}
 use Rattle.dcr_json.specs.declared.case.CaseStop.TheVariants.{CallLine}
-use Rattle.dcr_nodes.proofs.StageLemmas.{from_step, from_stop, from_end}
+use Rattle.dcr_written.proofs.StageLemmas.{from_step, from_stop, from_end}
 use Rattle.dcr_json.proofs.calls.read_calls.Goals as goal
 
 pub returns-in_default : goal.returns-in_default

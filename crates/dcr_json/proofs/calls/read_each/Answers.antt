@@ -2,7 +2,7 @@ use Rattle.std.proofs.Common.{◌≡◌, ◌≢◌, Ok, Err, sym, ap, ◌∙◌,
 use Rattle.dcr_shape.specs.Stages.{each_from}
 use Rattle.dcr_json.specs.Judged.{session_told, sessions_told}
 use Rattle.dcr_json.specs.declared.case.CaseStop.TheVariants.{NoMemory}
-use Rattle.dcr_nodes.proofs.StageLemmas.{from_step, from_stop, from_end}
+use Rattle.dcr_written.proofs.StageLemmas.{from_step, from_stop, from_end}
 use Rattle.dcr_json.proofs.calls.read_each.Goals as goal
 
 pub returns-in_err-calls : goal.returns-in_err-calls

@@ -1,6 +1,6 @@
 use Rattle.std.proofs.Common.{sym}
 use Rattle.serde_json.specs.View.{view}
-use Rattle.dcr_nodes.proofs.KindLemmas.{kinds_of_version}
+use Rattle.dcr_written.proofs.KindLemmas.{kinds_of_version}
 use Rattle.dcr_json.proofs.read.read_value.Goals as goal
 
 pub read_nodes-requires-clause-kinds : goal.read_nodes-requires-clause-kinds

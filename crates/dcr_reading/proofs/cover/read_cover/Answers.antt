@@ -1,7 +1,7 @@
 use Rattle.std.proofs.Common.{Err, ap, ◌∙◌}
 use Rattle.serde_json.specs.View.{view}
 use Rattle.dcr_shape.specs.declared.stop.LimitKind.TheVariants as kind
-use Rattle.dcr_nodes.proofs.NodeLemmas.{kept}
+use Rattle.dcr_written.proofs.NodeLemmas.{kept}
 use Rattle.dcr_reading.proofs.MemoryLemmas.{is_shaped}
 use Rattle.dcr_reading.proofs.StageLemmas.{written_parts}
 use Rattle.dcr_reading.proofs.cover.read_cover.Goals as goal

@@ -1,5 +1,5 @@
 use Rattle.serde_json.specs.View.{view}
-use Rattle.dcr_nodes.proofs.KindLemmas.{kinds_of_version}
+use Rattle.dcr_written.proofs.KindLemmas.{kinds_of_version}
 use Rattle.dcr_reading.proofs.StageLemmas.{written_parts}
 use Rattle.dcr_reading.proofs.graph.read_file.Goals as goal
 
