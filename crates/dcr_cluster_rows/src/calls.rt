@@ -1,33 +1,9 @@
-// Rows without a tape.
-ghost use Rattle.std.specs.Prelude.{◌≡◌, ◌≤◌, [], Some};
-ghost use Rattle.dcr_json.specs.Built.{IsCase};
-ghost use Rattle.dcr_cell.specs.Stored.{MayBegin};
-ghost use Rattle.dcr_cluster_rows.specs.Made.{AreOfCase, cluster_of};
-
-use crate::making::{Parts, is_in_range, no_tape, opened, parts_of};
-use crate::playing::{Step, case_of, expect, expect_report, played, without_tape};
+// Calls that are made one after the other, without a tape.
+use crate::playing::{Step, case_of, expect_report, played, without_tape};
 use crate::texts::{HOSPITAL, HOSPITAL_REPORT, HOSPITAL_STEPS, NO_SESSION, SHARED_EVENT};
-use dcr_base::{Disk, OpenGate};
-use dcr_cell::StoreName;
-use dcr_cluster::{Cluster, Halt};
-use dcr_fakes::MemDisk;
-use dcr_journal::{Call, Outcome};
-use dcr_json::Case;
-use dcr_set::{EventId, SiteId};
-use dcr_tape::Store;
-use dcr_turn::{Pass, TurnName};
 use std::alloc::Global;
-use std::marker::Brand;
 use std::sync::Wait;
 use std::test::Fail;
-
-#[test]
-fn a_hospital_is_answered_call_by_call(rt: HostRuntime) -> Result<(), Fail> {
-    let case = case_of(rt.alloc(), HOSPITAL)?;
-    let beginning = without_tape(rt.alloc(), 9);
-    let end = played(&rt, rt.alloc(), &case, beginning, &HOSPITAL_STEPS)?;
-    expect_report(rt.alloc(), &case, &end.closed, HOSPITAL_REPORT)
-}
 
 // Looks and what is enabled, in two sessions of which each counts its own calls.
 const TWO_SESSIONS: [Step<'static>; 6] = [
@@ -60,15 +36,7 @@ verdict waits s
 end 6
 ";
 
-#[test]
-fn two_sessions_ask_in_turn(rt: HostRuntime) -> Result<(), Fail> {
-    let case = case_of(rt.alloc(), HOSPITAL)?;
-    let mut beginning = without_tape(rt.alloc(), 200_000);
-    beginning.sessions = 2;
-    let end = played(&rt, rt.alloc(), &case, beginning, &TWO_SESSIONS)?;
-    expect_report(rt.alloc(), &case, &end.closed, TWO_SESSIONS_REPORT)
-}
-
+// An event that two sites own.
 const SHARED_STEPS: [Step<'static>; 3] = [
     (0, "exec x e", "0 0 0 exec x e done"),
     (0, "exec y e", "1 0 1 exec y e done"),
@@ -86,138 +54,79 @@ verdict accepting
 end 3
 ";
 
-#[test]
-fn an_event_that_two_sites_own(rt: HostRuntime) -> Result<(), Fail> {
-    let case = case_of(rt.alloc(), SHARED_EVENT)?;
-    let beginning = without_tape(rt.alloc(), 3);
-    let end = played(&rt, rt.alloc(), &case, beginning, &SHARED_STEPS)?;
-    expect_report(rt.alloc(), &case, &end.closed, SHARED_REPORT)
-}
+// A history that is full takes no call.
+const FULL_STEPS: [Step<'static>; 4] = [
+    (0, "exec x a", "0 0 0 exec x a done"),
+    (0, "exec x a", "1 0 1 exec x a done"),
+    (0, "exec x a", "full 2"),
+    (0, "accepting", "full 2"),
+];
 
-// The steps at a cluster that has room for so many entries, after which it has just so many.
-fn fills_up<R: Wait>(rt: &R, alloc: Global, capacity: u32, steps: &[Step<'_>]) -> Result<(), Fail>
-    requires { capacity ≤ 200000 }
-{
-    let case = case_of(alloc, NO_SESSION)?;
-    let end = played(rt, alloc, &case, without_tape(alloc, capacity), steps)?;
-    expect(
-        end.closed.history.len() == capacity && end.closed.marks.len() == 1,
-        "the history is full",
-    )
-}
+const FULL_REPORT: &str = "open executed - pending - included a
+0 0 0 exec x a done
+1 0 1 exec x a done
+site x executed a pending - included a
+verdict accepting
+end 2
+";
 
-#[test]
-fn a_history_that_is_full_takes_no_call(rt: HostRuntime) -> Result<(), Fail> {
-    let two = [
-        (0, "exec x a", "0 0 0 exec x a done"),
-        (0, "exec x a", "1 0 1 exec x a done"),
-        (0, "exec x a", "full 2"),
-        (0, "accepting", "full 2"),
-    ];
-    fills_up(&rt, rt.alloc(), 2, &two)?;
-    fills_up(&rt, rt.alloc(), 0, &[(0, "exec x a", "full 0")])
-}
+const NO_ROOM_REPORT: &str = "open executed - pending - included a
+site x executed - pending - included a
+verdict accepting
+end 0
+";
 
-// What so many questions whether anything is owed are told.
-fn many_told(alloc: Global, most: u32) -> Result<Vec<String>, Fail> {
-    let mut told = Vec::new(alloc);
-    for place in 0..most {
-        told.push(format!(in alloc; "{place} 0 {place} accepting yes")?)?;
+// That two sessions with room for so many entries are told so, and leave this report.
+fn expect_told<R: Wait>(
+    rt: &R,
+    alloc: Global,
+    text: &str,
+    capacity: u32,
+    steps: &[Step<'_>],
+    report: &str,
+) -> Result<(), Fail> {
+    if capacity > 200_000 {
+        return Err(Fail::new("as much room as there may be"));
     }
-    told.push(format!(in alloc; "full {most}")?)?;
-    Ok(told)
+    let case = case_of(alloc, text)?;
+    let mut beginning = without_tape(alloc, capacity);
+    beginning.sessions = 2;
+    let end = played(rt, alloc, &case, beginning, steps)?;
+    expect_report(alloc, &case, &end.closed, report)
+}
+
+#[test]
+fn each_call_is_answered(rt: HostRuntime) -> Result<(), Fail> {
+    let no_room = [(0, "exec x a", "full 0")];
+    let rows: [(&str, u32, &[Step<'_>], &str); 5] = [
+        (HOSPITAL, 9, &HOSPITAL_STEPS, HOSPITAL_REPORT),
+        (HOSPITAL, 200_000, &TWO_SESSIONS, TWO_SESSIONS_REPORT),
+        (SHARED_EVENT, 3, &SHARED_STEPS, SHARED_REPORT),
+        (NO_SESSION, 2, &FULL_STEPS, FULL_REPORT),
+        (NO_SESSION, 0, &no_room, NO_ROOM_REPORT),
+    ];
+    for (text, capacity, steps, report) in rows {
+        expect_told(&rt, rt.alloc(), text, capacity, steps, report)?;
+    }
+    Ok(())
 }
 
 #[test]
 fn a_history_goes_on_in_a_second_block(rt: HostRuntime) -> Result<(), Fail> {
-    let told = many_told(rt.alloc(), 257)?;
-    let mut steps = Vec::new(rt.alloc());
+    let alloc = rt.alloc();
+    let mut report = String::from_str(alloc, "open executed - pending - included a\n")?;
+    let mut told = Vec::new(alloc);
+    for place in 0..257 {
+        let line = format!(in alloc; "{place} 0 {place} accepting yes")?;
+        report.push_str(&line)?;
+        report.push_str("\n")?;
+        told.push(line)?;
+    }
+    report.push_str("site x executed - pending - included a\nverdict accepting\nend 257\n")?;
+    let mut steps = Vec::new(alloc);
     for line in &told {
         steps.push((0, "accepting", line.as_str()))?;
     }
-    fills_up(&rt, rt.alloc(), 257, &steps)
-}
-
-// Each of two sessions makes a call, and the first one learns of the second's.
-fn learned<N: StoreName<MemDisk>, R: Wait>(
-    rt: &R,
-    alloc: Global,
-    case: &Case,
-    parts: Parts,
-    store: Store<MemDisk>,
-) -> Result<(), Fail>
-    requires case { IsCase case.now }
-    requires parts { AreOfCase case.now parts.blank parts.sites.items }
-    requires cluster { N.cluster ≡ cluster_of case.now [] }
-    requires turn { N.turn ≡ parts.blank }
-    requires capacity { N.capacity ≡ 2 }
-    requires first { N.first ≡ Some store }
-    requires begins { MayBegin ⟦<MemDisk as Disk>⟧.view [] store }
-{
-    let opened = opened::<_, _, N>(alloc, case, parts, 2, store, &[], OpenGate);
-    let Ok((cluster, mut passes)) = opened else {
-        return Err(Fail::new("the cluster is opened"));
-    };
-    both_called(rt, case, &cluster, &mut passes)?;
-    let end = cluster.close(rt, passes);
-    expect(
-        end.closed.history.len() == 2 && end.closed.waits.is_none(),
-        "two calls, and nothing is owed",
-    )
-}
-
-fn both_called<N: StoreName<MemDisk>, R: Wait>(
-    rt: &R,
-    case: &Case,
-    cluster: &Cluster<MemDisk, OpenGate, N>,
-    passes: &mut Vec<Pass<N>>,
-) -> Result<(), Fail>
-    requires case { IsCase case.now }
-    requires cluster { N.cluster ≡ cluster_of case.now [] }
-{
-    let call = Call::Exec(SiteId(0), EventId(0));
-    let Some((first, rest)) = passes.split_first_mut() else {
-        return Err(Fail::new("a first pass"));
-    };
-    let Some((second, _)) = rest.split_first_mut() else {
-        return Err(Fail::new("a second pass"));
-    };
-    if !is_in_range(&call, case.cover.sites(), case.graph.atoms()) {
-        return Err(Fail::new("a call of the case"));
-    }
-    expect(
-        is_done(&cluster.call(rt, first, call)),
-        "the execution is done",
-    )?;
-    expect(
-        is_all_done(&cluster.call(rt, second, Call::Accepting)),
-        "nothing is owed",
-    )?;
-    expect_made(first, 1)?;
-    cluster.learn(first, second);
-    expect_made(first, 2)?;
-    expect_made(second, 2)
-}
-
-// The pass has seen so many entries, of which its session made one.
-fn expect_made<N: TurnName>(pass: &Pass<N>, seen: u32) -> Result<(), Fail> {
-    expect(
-        pass.seen() == seen && pass.made() == 1,
-        "what a session has seen, and made",
-    )
-}
-
-fn is_done(answer: &Result<Outcome, Halt>) -> bool {
-    matches!(answer, Ok(Outcome::Done))
-}
-
-fn is_all_done(answer: &Result<Outcome, Halt>) -> bool {
-    matches!(answer, Ok(Outcome::AllDone))
-}
-
-#[test]
-fn a_session_learns_of_another_one(rt: HostRuntime) -> Result<(), Fail> {
-    let case = case_of(rt.alloc(), NO_SESSION)?;
-    let parts = parts_of(rt.alloc(), &case, 2)?;
-    learned::<Brand, _>(&rt, rt.alloc(), &case, parts, no_tape(rt.alloc()))
+    steps.push((0, "accepting", "full 257"))?;
+    expect_told(&rt, alloc, NO_SESSION, 257, &steps, &report)
 }

@@ -1,9 +1,8 @@
 //! A cluster of a case, and the report of its run.
-ghost use Rattle.std.specs.Prelude.{◌≡◌, ◌≤◌, List, Some, drop, length, IfOk, IfSome};
+ghost use Rattle.std.specs.Prelude.{◌≡◌, ◌≤◌, List, Some, length, IfOk};
 ghost use Rattle.std.specs.Bool.{OnTrue};
 ghost use Rattle.dcr_journal.specs.Run.{IsInRange};
 ghost use Rattle.dcr_json.specs.Built.{IsCase};
-ghost use Rattle.dcr_replay.specs.Cut.{lines_of};
 ghost use Rattle.dcr_turn.specs.PassValue.{new_passes};
 ghost use Rattle.dcr_cell.specs.Stored.{MayBegin};
 ghost use Rattle.dcr_tape.specs.declared.entry.TapeEntry.{TapeEntry};
@@ -21,7 +20,6 @@ use dcr_set::NoMemory;
 use dcr_site::Site;
 use dcr_tape::{Store, TapeEntry};
 use dcr_turn::Pass;
-use memchr::memchr;
 use std::alloc::Global;
 
 /// What a cluster of a case is made of.
@@ -98,7 +96,7 @@ pub fn no_tape(alloc: Global) -> Store<MemDisk>
 
 /// The report of a run of the case. It is stopped for want of memory, or where the report is longer than 268,435,456
 /// bytes.
-pub fn report_of(alloc: Global, case: &Case, closed: &Closed) -> Result<Vec<u8>, ReportStop>
+pub(crate) fn report_of(alloc: Global, case: &Case, closed: &Closed) -> Result<Vec<u8>, ReportStop>
     requires case { IsCase case.now }
     requires run { IsOfCase case.now closed.now }
 {
@@ -114,23 +112,5 @@ pub fn report_of(alloc: Global, case: &Case, closed: &Closed) -> Result<Vec<u8>,
     match sink.taken().to_vec(alloc) {
         Ok(report) => Ok(report),
         Err(_) => Err(ReportStop::NoMemory),
-    }
-}
-
-/// What stands in a report behind the lines of the case. None where there are no three lines.
-pub fn behind_case(report: &[u8]) -> Option<&[u8]>
-    ensures { IfSome result (λ rest. lines_of rest.now ≡ drop 3 (lines_of report.now)) }
-{
-    let behind_one = behind_line(report)?;
-    let behind_two = behind_line(behind_one)?;
-    behind_line(behind_two)
-}
-
-fn behind_line(text: &[u8]) -> Option<&[u8]>
-    ensures { IfSome result (λ rest. lines_of rest.now ≡ drop 1 (lines_of text.now)) }
-{
-    match memchr(b'\n', text) {
-        Some(end) => Some(&text[end + 1..]),
-        None => None,
     }
 }

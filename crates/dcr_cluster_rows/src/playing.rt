@@ -8,7 +8,7 @@ ghost use Rattle.dcr_tape.specs.declared.entry.TapeEntry.{TapeEntry};
 ghost use Rattle.dcr_cell.specs.Stored.{MayBegin};
 ghost use Rattle.dcr_cluster_rows.specs.Made.{AreOfCase, IsOfCase, cluster_of};
 
-use crate::making::{Parts, behind_case, no_tape, opened, parts_of, report_of};
+use crate::making::{Parts, no_tape, opened, parts_of, report_of};
 use dcr_base::{Disk, OpenGate};
 use dcr_cell::StoreName;
 use dcr_cluster::{Cluster, Finished, Halt};
@@ -232,15 +232,14 @@ pub fn expect_valid(alloc: Global, case: &Case, closed: &Closed) -> Result<(), F
     }
 }
 
-/// Fails where the report of the run doesn't end with these lines, behind those of the case.
+/// Fails where the report of the run doesn't end with these lines, those behind the cover.
 pub fn expect_report(alloc: Global, case: &Case, closed: &Closed, wanted: &str) -> Result<(), Fail>
     requires case { IsCase case.now }
     requires run { IsOfCase case.now closed.now }
 {
     let report = report_of(alloc, case, closed)?;
-    let text = behind_case(&report).ok_or("a report")?;
-    if text != wanted.as_bytes() {
-        return Err(differs(alloc, text, wanted)?);
+    if !wanted.starts_with("open ") || !report.ends_with(wanted.as_bytes()) {
+        return Err(differs(alloc, &report, wanted)?);
     }
     Ok(())
 }

@@ -5,7 +5,8 @@ pub const HOSPITAL: &str =
     r#"{"graph":{"events":[{"name":"pm"},{"name":"s"},{"name":"gm"},{"name":"dt"}],"relations":[["condition","pm","s"],["condition","s","gm"],["condition","s","dt"],["response","pm","s"],["response","pm","gm"],["response","dt","s"],["exclude","dt","gm"],["include","s","gm"]]},"cover":[{"site":"doctor","events":["pm","s"]},{"site":"nurse","events":["gm","dt"]}]}"#;
 
 /// What the report of the hospital's row has behind the lines of the case.
-pub const HOSPITAL_REPORT: &str = "open executed - pending - included pm,s,gm,dt
+#[cfg(test)]
+pub(crate) const HOSPITAL_REPORT: &str = "open executed - pending - included pm,s,gm,dt
 0 0 0 exec doctor pm done
 1 0 1 exec nurse gm condition s
 2 0 2 exec doctor s done
@@ -39,17 +40,15 @@ pub const NO_SESSION: &str =
     r#"{"graph":{"events":[{"name":"a"}]},"cover":[{"site":"x","events":["a"]}]}"#;
 
 /// The sites x and y own e, and z owns f.
-pub const SHARED_EVENT: &str =
+#[cfg(test)]
+pub(crate) const SHARED_EVENT: &str =
     r#"{"graph":{"events":[{"name":"e"},{"name":"f"}]},"cover":[{"site":"x","events":["e"]},{"site":"y","events":["e"]},{"site":"z","events":["f"]}]}"#;
 
 /// Of three sites each owns an atom of its own.
-pub const THREE_SITES: &str =
+#[cfg(test)]
+pub(crate) const THREE_SITES: &str =
     r#"{"graph":{"events":[{"name":"a"},{"name":"b"},{"name":"c"}]},"cover":[{"site":"A","events":["a"]},{"site":"B","events":["b"]},{"site":"C","events":["c"]}]}"#;
 
 /// Of two sites each owns an atom of its own.
 pub const TWO_SITES: &str =
     r#"{"graph":{"events":[{"name":"a"},{"name":"b"}]},"cover":[{"site":"A","events":["a"]},{"site":"B","events":["b"]}]}"#;
-
-/// The sites A and B own a, B owns b, and C owns c.
-pub const SHARING_SITES: &str =
-    r#"{"graph":{"events":[{"name":"a"},{"name":"b"},{"name":"c"}]},"cover":[{"site":"A","events":["a"]},{"site":"B","events":["a","b"]},{"site":"C","events":["c"]}]}"#;

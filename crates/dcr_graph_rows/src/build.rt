@@ -1,8 +1,10 @@
-// Builders of graphs of four atoms and of sets of them, for the worked rows.
+// Builders of graphs of four atoms, of sets of them, of a marking and of a cover, for the worked rows.
 ghost use Rattle.std.specs.Prelude.{◌≡◌, length, IfOk};
 ghost use Rattle.dcr_graph.specs.Pairs.{AreInRange};
+ghost use Rattle.dcr_graph.specs.Projection.{HasRoom};
 
-use dcr_graph::{Graph, GraphStop, Kind, Label, Name};
+use dcr_graph::{Graph, GraphStop, Kind, Label, Marking, Name};
+use dcr_proj::Cover;
 use dcr_set::{EventId, EventSet};
 use std::alloc::Global;
 use std::test::Fail;
@@ -78,6 +80,26 @@ pub(crate) fn event_set(numbers: &[u16]) -> EventSet
         }
     }
     set
+}
+
+// The marking in which each of the four atoms is included, and nothing else is marked.
+pub(crate) fn opening() -> Marking
+    ensures { HasRoom 4 result }
+{
+    Marking {
+        executed: event_set(&[]),
+        pending: event_set(&[]),
+        included: event_set(&[0, 1, 2, 3]),
+    }
+}
+
+// The sites doctor and nurse, of no atoms.
+pub(crate) fn cover_of(alloc: Global) -> Result<Cover, Fail> {
+    let doctor = Name::read(alloc, "doctor")?;
+    let nurse = Name::read(alloc, "nurse")?;
+    let names = Vec::from_array(alloc, [doctor, nurse])?;
+    let owned = Vec::from_array(alloc, [EventSet::new(0), EventSet::new(0)])?;
+    Ok(Cover::new(names, owned))
 }
 
 // Which of the four atoms are in the set, pm in the lowest bit.

@@ -1,8 +1,10 @@
-//! Worked rows over graphs of four atoms: the plain engine, projections, sites, journals and lines.
+//! Worked rows of graphs, nests, projections, the engines, journals and lines that no whole case or report shows.
 #![tactic(auto)]
 
 #[cfg(test)]
 mod build;
+#[cfg(test)]
+mod engines;
 #[cfg(test)]
 mod graph;
 #[cfg(test)]
@@ -12,12 +14,12 @@ mod laws;
 #[cfg(test)]
 mod line;
 #[cfg(test)]
-mod mark;
-#[cfg(test)]
 mod names;
+#[cfg(test)]
+mod nest;
 #[cfg(test)]
 mod proj;
 #[cfg(test)]
 mod same;
 #[cfg(test)]
-mod site;
+mod stops;

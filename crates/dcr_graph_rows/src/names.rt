@@ -3,7 +3,7 @@ use crate::same::same;
 use dcr_graph::NameIndex;
 use std::test::Fail;
 
-// Three texts of 48 bytes whose hashes are one, and four others.
+// Three texts of 48 bytes whose hashes are one, and five others, of which one stands twice.
 const TEXTS: [&str; 8] = [
     "hxq6bmGRTRZv8cQJVri9Sp_LA.L5iow1xZ3QVTGSX6m4nuAe",
     "hxq6bmGRTRZv8cQJVri9Sp_LA0PpSXztxZ3QVTGSX6m4nuAe",
@@ -23,7 +23,8 @@ fn a_text_has_the_number_of_the_first_that_is_it(rt: HostRuntime) -> Result<(), 
         texts.push(text.as_bytes())?;
     }
     let index = NameIndex::new(alloc, texts)?;
-    same(&rt, &index.len(), &8, "index.len()");
+    let none = NameIndex::new(alloc, Vec::new(alloc))?;
+    same(&rt, &(index.len(), none.len()), &(8, 0), "how many");
     for (text, number) in [
         (TEXTS[0], Some(0)),
         (TEXTS[1], Some(1)),
@@ -36,9 +37,7 @@ fn a_text_has_the_number_of_the_first_that_is_it(rt: HostRuntime) -> Result<(), 
         ("pmm", None),
     ] {
         same(&rt, &index.find(text.as_bytes()), &number, text);
+        same(&rt, &none.find(text.as_bytes()), &None, text);
     }
-    let none = NameIndex::new(alloc, Vec::new(alloc))?;
-    same(&rt, &none.len(), &0, "none.len()");
-    assert!(rt; none.find(b"pm").is_none());
     Ok(())
 }

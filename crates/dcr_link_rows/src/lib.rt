@@ -1,7 +1,23 @@
-//! Worked rows of sessions over links: what is asked, what is answered, and how the session ends.
+//! Links in memory that somebody asks over, and worked rows of the desk that hands them out, of the sessions over them and of
+//! the door that listens.
 #![tactic(auto)]
 
 #[cfg(test)]
+mod build;
+#[cfg(test)]
+mod desk;
+mod links;
+#[cfg(test)]
 mod rows;
 #[cfg(test)]
+mod same;
+#[cfg(test)]
 mod serving;
+#[cfg(test)]
+mod tcp;
+#[cfg(test)]
+mod threads;
+#[cfg(test)]
+mod working;
+
+pub use links::{Asking, Told, door_of, ends_of, links_of, whole};

@@ -1,73 +1,88 @@
-// One session over a link in memory, on a cluster of a case of its own.
-ghost use Rattle.std.specs.Prelude.{◌≡◌, ◌≤◌, [], Some};
+// The sessions of a cluster of a case of its own, over links in memory.
+ghost use Rattle.std.specs.Prelude.{◌≡◌, ◌<◌, ◌≤◌, [], Some};
 ghost use Rattle.dcr_json.specs.Built.{IsCase};
 ghost use Rattle.dcr_cell.specs.Stored.{MayBegin};
 ghost use Rattle.dcr_cluster_rows.specs.Made.{AreOfCase, cluster_of};
 
+use crate::links::{Asking, Told, door_of, ends_of, links_of};
 use dcr_base::{Disk, OpenGate};
 use dcr_cell::StoreName;
-use dcr_cluster_rows::{Parts, case_of, no_tape, opened, parts_of};
-use dcr_fakes::{MemDisk, MemLink, MemSink, MemSource};
+use dcr_cluster_rows::{Parts, case_of, expect_valid, no_tape, opened, parts_of};
+use dcr_fakes::{MemDisk, MemDoor};
 use dcr_json::Case;
-use dcr_link::{WorkEnd, serve_session};
+use dcr_serving::{ServeEnd, serve_sessions};
 use dcr_tape::Store;
-use std::alloc::Global;
+use dcr_turn::{Pass, TurnName};
+use std::alloc::{AllocError, Global};
 use std::marker::Brand;
-use std::process::Abort;
 use std::sync::Wait;
 use std::test::Fail;
+use std::thread::Threads;
 
-/// What somebody asks over a link: the bytes, how many come at a time, the reads that fail, counted from 1, and for how
-/// many bytes of replies there is room.
+/// Sessions of a case that are served: for how many entries there is room, 200,000 at most, how many sessions there are, by
+/// how many workers, over which links, and the calls of the door that fail, counted from 1.
 #[derive(Clone, Copy)]
-pub(crate) struct Asking<'a> {
-    pub(crate) bytes: &'a [u8],
-    pub(crate) step: usize,
+pub(crate) struct Serving<'a> {
+    pub(crate) text: &'a str,
+    pub(crate) capacity: u32,
+    pub(crate) sessions: u32,
+    pub(crate) workers: u32,
+    pub(crate) links: &'a [Asking<'a>],
     pub(crate) failing: &'a [u32],
-    pub(crate) room: usize,
 }
 
-/// Bytes that come whole, over a link that takes all that is answered.
-pub(crate) fn in_whole(bytes: &[u8]) -> Asking<'_> {
-    Asking {
-        bytes,
-        step: 4096,
-        failing: &[],
-        room: 1 << 24,
-    }
+/// What came of it: how each session has ended that had a link, how many calls each pass has made, how many links are left
+/// at the door, and whether it failed.
+#[derive(Drop)]
+pub(crate) struct Came {
+    pub(crate) ends: Vec<Told>,
+    pub(crate) made: Vec<u32>,
+    pub(crate) left: usize,
+    pub(crate) door_failed: bool,
 }
 
-/// The session over the link, and what the link has taken. There is room for so many entries, 200,000 at most.
-pub(crate) fn served<R: Wait>(
+/// Serves the sessions. The report of the run is valid.
+pub(crate) fn served<R: Threads + Wait + Sync>(
     rt: &R,
     alloc: Global,
-    text: &str,
-    capacity: u32,
-    asking: Asking<'_>,
-) -> Result<(WorkEnd, Vec<u8>), Fail> {
-    if capacity > 200_000 || asking.step == 0 {
-        return Err(Fail::new("a room and a step that there may be"));
+    serving: &Serving<'_>,
+) -> Result<Came, Fail> {
+    let Serving {
+        text,
+        capacity,
+        sessions,
+        workers,
+        links,
+        failing,
+    } = *serving;
+    if capacity > 200_000 || sessions > 1024 || workers == 0 || workers > 64 {
+        return Err(Fail::new("as much as there may be"));
     }
     let case = case_of(alloc, text)?;
-    let parts = parts_of(alloc, &case, 1)?;
-    let source = MemSource::new(
-        asking.bytes.to_vec(alloc)?,
-        asking.step,
-        asking.failing.to_vec(alloc)?,
-    );
-    let link = MemLink::new(source, MemSink::new(alloc, asking.room));
-    serve::<Brand, _>(rt, alloc, &case, parts, no_tape(alloc), capacity, link)
+    let parts = parts_of(alloc, &case, sessions)?;
+    let door = door_of(alloc, links, failing)?;
+    serve::<Brand, _>(
+        rt,
+        alloc,
+        &case,
+        parts,
+        no_tape(alloc),
+        capacity,
+        workers,
+        door,
+    )
 }
 
-fn serve<N: StoreName<MemDisk>, R: Wait>(
+fn serve<N: StoreName<MemDisk> + Send + Sync, R: Threads + Wait + Sync>(
     rt: &R,
     alloc: Global,
     case: &Case,
     parts: Parts,
     store: Store<MemDisk>,
     capacity: u32,
-    mut link: MemLink,
-) -> Result<(WorkEnd, Vec<u8>), Fail>
+    workers: u32,
+    door: MemDoor,
+) -> Result<Came, Fail>
     requires case { IsCase case.now }
     requires parts { AreOfCase case.now parts.blank parts.sites.items }
     requires cluster { N.cluster ≡ cluster_of case.now [] }
@@ -76,38 +91,45 @@ fn serve<N: StoreName<MemDisk>, R: Wait>(
     requires most { capacity ≤ 200000 }
     requires first { N.first ≡ Some store }
     requires begins { MayBegin ⟦<MemDisk as Disk>⟧.view [] store }
+    requires workers { (0 < workers) × (workers ≤ 64) }
 {
     let opened = opened::<_, _, N>(alloc, case, parts, capacity, store, &[], OpenGate);
-    let Ok((cluster, mut passes)) = opened else {
+    let Ok((cluster, passes)) = opened else {
         return Err(Fail::new("the cluster is opened"));
     };
-    let pass = passes.get_mut(0).ok_or("a session")?;
-    let end = serve_session(
+    let end = serve_sessions(
         rt,
         alloc,
         &cluster,
-        pass,
+        passes,
         &case.graph,
         &case.cover,
-        &mut link,
+        door,
+        workers,
     );
-    let taken = link.taken().to_vec(alloc)?;
-    cluster.close(rt, passes);
-    Ok((end, taken))
+    let ServeEnd {
+        passes,
+        door,
+        door_failed,
+        no_memory: _,
+        ends,
+    } = end;
+    let made = made_by(alloc, &passes)?;
+    let finished = cluster.close(rt, passes);
+    expect_valid(alloc, case, &finished.closed)?;
+    Ok(Came {
+        ends: ends_of(alloc, &ends)?,
+        made,
+        left: links_of(door),
+        door_failed,
+    })
 }
 
-/// That what is asked ends so, and is answered by this text.
-pub(crate) fn assert_served<R: Wait + Abort>(
-    rt: &R,
-    alloc: Global,
-    text: &str,
-    capacity: u32,
-    asking: Asking<'_>,
-    end: WorkEnd,
-    wanted: &str,
-) -> Result<(), Fail> {
-    let (found, taken) = served(rt, alloc, text, capacity, asking)?;
-    assert_eq!(rt; found, end);
-    assert_eq!(rt; str::from_utf8(&taken)?, wanted);
-    Ok(())
+// How many calls each pass has made.
+fn made_by<N: TurnName>(alloc: Global, passes: &[Pass<N>]) -> Result<Vec<u32>, AllocError> {
+    let mut made = Vec::new(alloc);
+    for pass in passes {
+        made.push(pass.made())?;
+    }
+    Ok(made)
 }

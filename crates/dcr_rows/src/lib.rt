@@ -1,31 +1,20 @@
-//! Worked rows: whole case files, and what the program answers to each.
+//! Worked rows through the top call that are no data: faults, gates, several workers, and what errors say. The others are
+//! those of `dcr_cases`.
 #![tactic(auto)]
 
 #[cfg(test)]
-mod causes;
-#[cfg(test)]
-mod effects;
-#[cfg(test)]
-mod far;
-#[cfg(test)]
 mod faults;
-#[cfg(test)]
-mod hostile;
-#[cfg(test)]
-mod limits;
-#[cfg(test)]
-mod loads;
-#[cfg(test)]
-mod refusals;
-#[cfg(test)]
-mod replays;
 #[cfg(test)]
 mod same;
 #[cfg(test)]
-mod small;
+mod served;
+#[cfg(test)]
+mod stored;
+#[cfg(test)]
+mod texts;
 #[cfg(test)]
 mod whole;
 #[cfg(test)]
-mod words;
-#[cfg(test)]
 mod workers;
+#[cfg(test)]
+mod written;

@@ -201,22 +201,6 @@ fn a_lock_round_the_whole_of_a_call_would_be_seen(rt: HostRuntime) -> Result<(),
 }
 
 #[test]
-fn one_worker_makes_the_sessions_one_after_the_other(rt: HostRuntime) -> Result<(), Fail> {
-    for case in [&APART, &ONCE] {
-        let words = ["run", "--workers", "1"];
-        let (status, written) = answer(&rt, rt.alloc(), &words, case.file.as_bytes())?;
-        same(&rt, &status, &Status::Done, "status");
-        same(
-            &rt,
-            &written.as_slice(),
-            &case.reports[0].as_bytes(),
-            "written.as_slice()",
-        );
-    }
-    Ok(())
-}
-
-#[test]
 fn of_two_executions_that_exclude_each_other_one_is_done(rt: HostRuntime) -> Result<(), Fail> {
     for _ in 0..20 {
         assert!(rt; gives_one(&rt, rt.alloc(), &ONCE, &meeting(1000))?);

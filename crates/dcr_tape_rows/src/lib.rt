@@ -4,14 +4,10 @@
 #[cfg(test)]
 mod crashes;
 #[cfg(test)]
-mod file;
-#[cfg(test)]
 mod refusals;
-#[cfg(test)]
-mod renewing;
 #[cfg(test)]
 mod same;
 #[cfg(test)]
 mod support;
 #[cfg(test)]
-mod tape;
+mod written;

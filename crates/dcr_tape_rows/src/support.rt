@@ -1,9 +1,10 @@
-// What the rows have in common: the digest of their case, the bytes of their tapes, and how a tape is opened.
+// What the rows have in common: the digest of their case, the bytes of their tapes, and how a tape is opened and goes on.
 use crate::same::same;
-use dcr_fakes::{DiskCall, MemDisk};
-use dcr_tape::{Tape, TapeCause, TapeEntry, TapeRefused, open_tape};
+use dcr_fakes::MemDisk;
+use dcr_tape::{Tape, TapeCause, TapeEntry, open_tape};
 use std::alloc::{AllocError, Global};
 use std::process::Abort;
+use std::test::Fail;
 
 /// The digest of the rows' case.
 pub(crate) const DIGEST: [u8; 32] = [7; 32];
@@ -22,93 +23,84 @@ pub(crate) fn disk_of(alloc: Global, bytes: &[u8], failing: &[u32]) -> Result<Me
     Ok(MemDisk::new(alloc, bytes.to_vec(alloc)?, failing.to_vec(alloc)?))
 }
 
-/// The tape on these bytes.
+/// The tape on such a disk, which is opened, and its executions.
 pub(crate) fn opened(
     alloc: Global,
     bytes: &[u8],
-) -> Result<Result<(Tape<MemDisk>, Vec<TapeEntry>), TapeRefused<MemDisk>>, AllocError> {
-    let disk = disk_of(alloc, bytes, &[])?;
-    Ok(open_tape(alloc, disk, &DIGEST))
-}
-
-/// Puts an execution on a tape, which takes it.
-pub(crate) fn append_one(rt: &impl Abort, tape: &mut Tape<MemDisk>, entry: TapeEntry) {
-    assert!(rt; !tape.stopped() && tape.renewed() && tape.entries() < 1_200_000);
-    same(rt, &tape.append(entry), &Ok(()), "tape.append(entry)");
-}
-
-/// That a call of the disk was a write that succeeded, of these bytes at this offset.
-pub(crate) fn assert_wrote(
-    rt: &impl Abort,
-    calls: &[DiskCall],
-    number: usize,
-    offset: u64,
-    piece: &[u8],
-) {
-    assert!(rt; number < calls.len());
-    match &calls[number] {
-        DiskCall::Write { at, bytes, failed } => {
-            assert!(rt;
-                *at == offset && bytes.as_slice() == piece && !*failed,
-                "call {number}"
-            );
-        }
-        _ => assert!(rt; false, "call {number} is no write"),
+    failing: &[u32],
+) -> Result<(Tape<MemDisk>, Vec<TapeEntry>), Fail> {
+    match open_tape(alloc, disk_of(alloc, bytes, failing)?, &DIGEST) {
+        Ok(found) => Ok(found),
+        Err(_) => Err(Fail::from("a tape that is opened")),
     }
 }
 
-/// That one was a sync that succeeded.
-pub(crate) fn assert_synced(rt: &impl Abort, calls: &[DiskCall], number: usize) {
-    assert!(rt; number < calls.len());
-    assert!(rt;
-        matches!(&calls[number], DiskCall::Sync { failed: false }),
-        "call {number}"
-    );
-}
-
-/// Why these bytes are refused; none where they are opened.
+/// Why these bytes are refused, as the tape of the case of this digest; none where they are opened.
 pub(crate) fn refusal(
     alloc: Global,
     bytes: &[u8],
     digest: &[u8; 32],
 ) -> Result<Option<TapeCause>, AllocError> {
     let disk = disk_of(alloc, bytes, &[])?;
-    Ok(
-        open_tape(alloc, disk, digest)
-            .err()
-            .map(|refused| refused.cause),
-    )
+    let refused = open_tape(alloc, disk, digest).err();
+    Ok(refused.map(|refused| refused.cause))
 }
 
-/// The header of a tape of this version, without its digest's case: 64 bytes.
-pub(crate) fn header(version: u8) -> [u8; 64] {
-    let mut bytes = [0; 64];
-    bytes[..7].copy_from_slice(b"DCRTAPE");
-    bytes[7] = version;
-    bytes[8..40].copy_from_slice(&DIGEST);
-    bytes
+/// Puts executions on a tape, which takes them.
+pub(crate) fn put(rt: &impl Abort, tape: &mut Tape<MemDisk>, entries: &[TapeEntry]) {
+    for entry in entries {
+        assert!(rt; !tape.stopped() && tape.renewed() && tape.entries() < 1_200_000);
+        same(rt, &tape.append(*entry), &Ok(()), "an append");
+    }
 }
 
-/// The tape of the five executions, of version 2: 125 bytes.
-pub(crate) fn new_tape(alloc: Global) -> Result<Vec<u8>, AllocError> {
-    let mut bytes = header(2).to_vec(alloc)?;
-    bytes.extend_from_slice(&[1, 0, 0, 0, 0, 0, 0, 0, 0, 0, 0, 0])?;
-    bytes.extend_from_slice(&[1, 0, 1, 0, 0, 0, 0, 0, 1, 0, 0, 0])?;
-    bytes.extend_from_slice(&[1, 0, 3, 0, 1, 0, 0, 0, 2, 0, 0, 0])?;
-    bytes.extend_from_slice(&[1, 0, 1, 0, 0, 0, 0, 0, 3, 0, 0, 0])?;
-    bytes.extend_from_slice(&[1, 0, 2, 0, 1, 0, 0, 0, 4, 0, 0, 0])?;
-    bytes.extend_from_slice(&[0])?;
-    Ok(bytes)
+/// The disk of a tape that is renewed, and then takes these executions.
+pub(crate) fn going_on(
+    rt: &impl Abort,
+    alloc: Global,
+    mut tape: Tape<MemDisk>,
+    entries: &[TapeEntry],
+) -> MemDisk {
+    assert!(rt; !tape.stopped());
+    same(rt, &tape.renew(alloc), &Ok(()), "a renewal");
+    put(rt, &mut tape, entries);
+    tape.into_disk()
 }
 
-/// The same of version 1: 105 bytes.
-pub(crate) fn old_tape(alloc: Global) -> Result<Vec<u8>, AllocError> {
-    let mut bytes = header(1).to_vec(alloc)?;
-    bytes.extend_from_slice(&[1, 0, 0, 0, 0, 0, 0, 0])?;
-    bytes.extend_from_slice(&[1, 0, 1, 0, 0, 0, 0, 0])?;
-    bytes.extend_from_slice(&[1, 0, 3, 0, 1, 0, 0, 0])?;
-    bytes.extend_from_slice(&[1, 0, 1, 0, 0, 0, 0, 0])?;
-    bytes.extend_from_slice(&[1, 0, 2, 0, 1, 0, 0, 0])?;
-    bytes.extend_from_slice(&[0])?;
+/// How many of the five executions are on the tape of these bytes; others are a failure. The tape goes on from there: with
+/// the rest of the five put on it, it is opened again with all of them.
+pub(crate) fn count_on(rt: &impl Abort, alloc: Global, bytes: &[u8]) -> Result<usize, Fail> {
+    let (tape, entries) = opened(alloc, bytes, &[])?;
+    let count = entries.len();
+    let front = ENTRIES.get(..count).ok_or("at most five")?;
+    let rest = ENTRIES.get(count..).ok_or("at most five")?;
+    same(rt, &entries.as_slice(), &front, "the first executions");
+    let disk = going_on(rt, alloc, tape, rest);
+    let (_, all) = opened(alloc, disk.bytes(), &[])?;
+    same(rt, &all.as_slice(), &ENTRIES.as_slice(), "all executions");
+    Ok(count)
+}
+
+/// The tape of these executions, of version 1 or 2.
+pub(crate) fn tape_of(
+    alloc: Global,
+    version: u8,
+    entries: &[TapeEntry],
+) -> Result<Vec<u8>, AllocError> {
+    let mut bytes = b"DCRTAPE".to_vec(alloc)?;
+    bytes.push(version)?;
+    bytes.extend_from_slice(&DIGEST)?;
+    bytes.extend_from_slice(&[0; 24])?;
+    for (number, entry) in (0u32..).zip(entries) {
+        let [a, b] = entry.event.to_be_bytes();
+        let [c, d] = entry.site.to_be_bytes();
+        let [w, x, y, z] = number.to_be_bytes();
+        if version == 2 {
+            bytes.extend_from_slice(&[1, a, b, c, d, w, x, y, z, 0, 0, 0])?;
+        } else {
+            bytes.extend_from_slice(&[1, a, b, c, d, 0, 0, 0])?;
+        }
+    }
+    bytes.push(0)?;
     Ok(bytes)
 }

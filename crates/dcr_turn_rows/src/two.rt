@@ -73,46 +73,34 @@ fn ended<N: TurnName, R: Wait + Abort>(
     Ok((one.session, two.session))
 }
 
-fn one_after_the_other<N: TurnName, R: Wait + Abort>(
+// Each makes its call, one after the other, or in two threads.
+fn both<N: TurnName + Send + Sync, R: Threads + Wait + Abort + Sync>(
     rt: &R,
     alloc: Global,
     blank: TurnBlank,
+    is_at_once: bool,
 ) -> Result<(), Fail>
     requires turn { blank ≡ N.turn }
     requires capacity { N.capacity ≡ 3 }
 {
     let (turn, fronts, first, second) = opened::<N>(alloc, blank)?;
-    let first = asked(rt, &turn, first);
-    let second = asked(rt, &turn, second);
-    assert_eq!(rt; ended(rt, alloc, turn, fronts, first, second)?, (0, 1));
-    Ok(())
-}
-
-fn at_once<N: TurnName + Send + Sync, R: Threads + Wait + Abort + Sync>(
-    rt: &R,
-    alloc: Global,
-    blank: TurnBlank,
-) -> Result<(), Fail>
-    requires turn { blank ≡ N.turn }
-    requires capacity { N.capacity ≡ 3 }
-{
-    let (turn, fronts, first, second) = opened::<N>(alloc, blank)?;
-    let (first, second) = thread::join(rt, || asked(rt, &turn, first), || asked(rt, &turn, second));
+    let (first, second) = if is_at_once {
+        thread::join(rt, || asked(rt, &turn, first), || asked(rt, &turn, second))
+    } else {
+        let first = asked(rt, &turn, first);
+        (first, asked(rt, &turn, second))
+    };
     let order = ended(rt, alloc, turn, fronts, first, second)?;
-    assert!(rt; order == (0, 1) || order == (1, 0));
+    assert!(rt; order == (0, 1) || is_at_once && order == (1, 0));
     Ok(())
 }
 
 #[test]
 fn two_passes(rt: HostRuntime) -> Result<(), Fail> {
-    let network = own_network(rt.alloc(), 1)?;
-    let blank = TurnBlank::new(rt.alloc(), &network, 2)?;
-    one_after_the_other::<Brand, _>(&rt, rt.alloc(), blank)
-}
-
-#[test]
-fn two_passes_in_two_threads(rt: HostRuntime) -> Result<(), Fail> {
-    let network = own_network(rt.alloc(), 1)?;
-    let blank = TurnBlank::new(rt.alloc(), &network, 2)?;
-    at_once::<Brand, _>(&rt, rt.alloc(), blank)
+    for is_at_once in [false, true] {
+        let network = own_network(rt.alloc(), 1)?;
+        let blank = TurnBlank::new(rt.alloc(), &network, 2)?;
+        both::<Brand, _>(&rt, rt.alloc(), blank, is_at_once)?;
+    }
+    Ok(())
 }

@@ -1,192 +1,125 @@
 // Lines cut from bytes, however the bytes come.
 use crate::same::{same, same_bytes};
 use dcr_text::{Cut, LineCutter};
+use std::alloc::Global;
 use std::process::Abort;
 use std::test::Fail;
 
 // Two lines, the second with a carriage return, an empty one, and what has no line end.
 const TEXT: &[u8] = b"look doctor\nexec doctor pm\r\n\nfoo";
 
-// The lines of the text, a bar behind each.
-const LINES: &[u8] = b"look doctor|exec doctor pm||";
-
-// Gives a piece to a cutter, and adds the lines that are cut off, a bar behind each. Answers what came of the end of it.
-fn cut(
-    rt: &impl Abort,
-    cutter: &mut LineCutter,
-    piece: &[u8],
-    lines: &mut Vec<u8>,
-) -> Result<Cut, Fail> {
-    let mut left = piece;
-    for _ in 0..piece.len() {
-        let (used, cut) = cutter.take(left);
-        assert!(rt; used <= left.len());
-        left = &left[used..];
-        match cut {
-            Cut::Line => {
-                lines.extend_from_slice(cutter.line())?;
-                lines.push(b'|')?;
+// Gives pieces to a new cutter. Answers the lines that are cut off, a bar behind each, and what came of the last piece.
+fn cut(alloc: Global, pieces: &[&[u8]]) -> Result<(Vec<u8>, Cut), Fail> {
+    let mut cutter = LineCutter::new(alloc, 200)?;
+    let mut lines = Vec::new(alloc);
+    let mut last = Cut::More;
+    for piece in pieces {
+        let mut left = *piece;
+        // Each line end begins one more call, and so does what is behind the last one.
+        for _ in 0..=piece.len() {
+            let (used, cut) = cutter.take(left);
+            last = cut;
+            match cut {
+                Cut::Line => {
+                    lines.extend_from_slice(cutter.line())?;
+                    lines.push(b'|')?;
+                    left = left.get(used..).unwrap_or(b"");
+                }
+                Cut::More | Cut::TooLong => break,
             }
-            Cut::More | Cut::TooLong => return Ok(cut),
         }
     }
-    same(rt, &left.len(), &0, "left.len()");
-    Ok(cutter.take(left).1)
+    Ok((lines, last))
+}
+
+// That these pieces have these lines, of which none is too long.
+fn assert_lines(
+    rt: &impl Abort,
+    alloc: Global,
+    pieces: &[&[u8]],
+    lines: &[u8],
+    row: &str,
+) -> Result<(), Fail> {
+    let (found, last) = cut(alloc, pieces)?;
+    same_bytes(rt, found.as_slice(), lines, row);
+    same(rt, &last, &Cut::More, row);
+    Ok(())
+}
+
+// That a line of 199 bytes and these is read, however it comes, as so many bytes with what ends it.
+fn assert_long(rt: &impl Abort, alloc: Global, behind: &[u8; 2], len: usize) -> Result<(), Fail> {
+    let long = [b'a'; 199];
+    for at in [0, 1, 100, 199] {
+        let (found, last) = cut(alloc, &[&long[..at], &long[at..], behind])?;
+        same(rt, &(found.len(), last), &(len, Cut::More), "200 bytes");
+    }
+    let (found, last) = cut(alloc, &[&long, &behind[..1], &behind[1..], b""])?;
+    same(rt, &(found.len(), last), &(len, Cut::More), "200 bytes");
+    Ok(())
 }
 
 #[test]
-fn a_text_in_two_pieces_has_the_same_lines(rt: HostRuntime) -> Result<(), Fail> {
+fn a_text_in_pieces_has_the_same_lines(rt: HostRuntime) -> Result<(), Fail> {
+    let lines = b"look doctor|exec doctor pm||foo|";
     for at in 0..=TEXT.len() {
-        let mut cutter = LineCutter::new(rt.alloc(), 200)?;
-        let mut lines = Vec::new(rt.alloc());
-        same(
-            &rt,
-            &cut(&rt, &mut cutter, &TEXT[..at], &mut lines)?,
-            &Cut::More,
-            "cut",
-        );
-        same(
-            &rt,
-            &cut(&rt, &mut cutter, &TEXT[at..], &mut lines)?,
-            &Cut::More,
-            "cut",
-        );
-        same_bytes(&rt, lines.as_slice(), LINES, "cut");
-        same(
-            &rt,
-            &cut(&rt, &mut cutter, b"\n", &mut lines)?,
-            &Cut::More,
-            "cut",
-        );
-        assert!(rt; lines.ends_with(b"||foo|"), "{at}");
+        let pieces = [&TEXT[..at], &TEXT[at..], b"", b"\n"];
+        assert_lines(&rt, rt.alloc(), &pieces, lines, "two pieces")?;
     }
+    let mut bytes = Vec::new(rt.alloc());
+    for byte in TEXT.chunks(1) {
+        bytes.push(byte)?;
+    }
+    let lines = b"look doctor|exec doctor pm||";
+    assert_lines(&rt, rt.alloc(), &bytes, lines, "byte by byte")?;
     Ok(())
 }
 
+// One carriage return is dropped. A line may have 200 bytes, of which that is one.
 #[test]
-fn a_text_byte_by_byte_has_the_same_lines(rt: HostRuntime) -> Result<(), Fail> {
-    let mut cutter = LineCutter::new(rt.alloc(), 200)?;
-    let mut lines = Vec::new(rt.alloc());
-    for byte in TEXT {
-        same(
-            &rt,
-            &cut(&rt, &mut cutter, &[*byte], &mut lines)?,
-            &Cut::More,
-            "cut(&rt, &mut cutter, &[*byte], &mut lines)?",
-        );
+fn a_carriage_return_is_dropped_and_counted(rt: HostRuntime) -> Result<(), Fail> {
+    let rows: [(&[&[u8]], &[u8]); 7] = [
+        (&[b"\n"], b"|"),
+        (&[b"\r\n"], b"|"),
+        (&[b"\r\r\n"], b"\r|"),
+        (&[b"a\r\n"], b"a|"),
+        (&[b"a\r\r\n"], b"a\r|"),
+        (&[b"a\rb\n"], b"a\rb|"),
+        (&[b"a\r", b"\nb", b"\r", b"\r\n"], b"a|b\r|"),
+    ];
+    for (pieces, lines) in rows {
+        assert_lines(&rt, rt.alloc(), pieces, lines, "a carriage return")?;
     }
-    same_bytes(&rt, lines.as_slice(), LINES, "lines.as_slice()");
+    assert_long(&rt, rt.alloc(), b"a\n", 201)?;
+    assert_long(&rt, rt.alloc(), b"\r\n", 200)?;
     Ok(())
 }
 
+// What is used of a piece, and what comes of it.
 #[test]
 fn a_line_end_is_used_and_no_byte_behind_it(rt: HostRuntime) -> Result<(), Fail> {
     let mut cutter = LineCutter::new(rt.alloc(), 200)?;
-    same(
-        &rt,
-        &cutter.take(b"look"),
-        &(4, Cut::More),
-        "a_line_end_is_used_and_no_byte_behind_it",
-    );
-    same(
-        &rt,
-        &cutter.take(b" pm\r\n\nfoo"),
-        &(5, Cut::Line),
-        "a_line_end_is_used_and_no_byte_behind_it",
-    );
-    same(
-        &rt,
-        &cutter.take(b"\nfoo"),
-        &(1, Cut::Line),
-        "a_line_end_is_used_and_no_byte_behind_it",
-    );
-    same(
-        &rt,
-        &cutter.take(b"foo"),
-        &(3, Cut::More),
-        "a_line_end_is_used_and_no_byte_behind_it",
-    );
-    same(
-        &rt,
-        &cutter.take(b""),
-        &(0, Cut::More),
-        "a_line_end_is_used_and_no_byte_behind_it",
-    );
-    Ok(())
-}
-
-#[test]
-fn one_carriage_return_is_dropped(rt: HostRuntime) -> Result<(), Fail> {
-    let rows: [(&[u8], &[u8]); 6] = [
-        (b"\n", b"|"),
-        (b"\r\n", b"|"),
-        (b"\r\r\n", b"\r|"),
-        (b"a\r\n", b"a|"),
-        (b"a\r\r\n", b"a\r|"),
-        (b"a\rb\n", b"a\rb|"),
-    ];
-    for (text, line) in rows {
-        let mut cutter = LineCutter::new(rt.alloc(), 200)?;
-        let mut lines = Vec::new(rt.alloc());
-        same(
-            &rt,
-            &cut(&rt, &mut cutter, text, &mut lines)?,
-            &Cut::More,
-            "cut(&rt, &mut cutter, text, &mut lines)?",
-        );
-        same_bytes(&rt, lines.as_slice(), line, "lines.as_slice()");
+    for (piece, told) in [
+        (b"look".as_slice(), (4, Cut::More)),
+        (b" pm\r\n\nfoo", (5, Cut::Line)),
+        (b"\nfoo", (1, Cut::Line)),
+        (b"foo", (3, Cut::More)),
+        (b"", (0, Cut::More)),
+    ] {
+        same(&rt, &cutter.take(piece), &told, "a line end");
     }
-    Ok(())
-}
-
-#[test]
-fn a_line_has_as_many_bytes_as_the_limit(rt: HostRuntime) -> Result<(), Fail> {
-    // The last byte before the line end, and how many bytes the line has then.
-    for (last, len) in [(b'a', 200), (b'\r', 199)] {
-        let mut bytes = [b'a'; 201];
-        bytes[199] = last;
-        bytes[200] = b'\n';
-        for at in [0, 1, 100, 199, 200, 201] {
-            let mut cutter = LineCutter::new(rt.alloc(), 200)?;
-            let mut lines = Vec::new(rt.alloc());
-            same(
-                &rt,
-                &cut(&rt, &mut cutter, &bytes[..at], &mut lines)?,
-                &Cut::More,
-                "cut",
-            );
-            same(
-                &rt,
-                &cut(&rt, &mut cutter, &bytes[at..], &mut lines)?,
-                &Cut::More,
-                "cut",
-            );
-            same(&rt, &lines.len(), &(len + 1), "lines.len()");
-            assert!(rt; lines.starts_with(&bytes[..len]), "{at}");
-        }
-    }
-    Ok(())
-}
-
-#[test]
-fn one_byte_more_is_too_long_and_stays_so(rt: HostRuntime) -> Result<(), Fail> {
+    // One byte more than there may be is too long, and stays so.
     let bytes = [b'a'; 201];
     for at in [0, 1, 100, 200] {
         let mut cutter = LineCutter::new(rt.alloc(), 200)?;
-        same(&rt, &cutter.take(&bytes[..at]), &(at, Cut::More), "cut");
-        same(
-            &rt,
-            &cutter.take(&bytes[at..]),
-            &(201 - at, Cut::TooLong),
-            "cut",
-        );
-        for piece in [b"\n".as_slice(), b"", b"a\n", b"\na"] {
-            same(
-                &rt,
-                &cutter.take(piece),
-                &(0, Cut::TooLong),
-                "cutter.take(piece)",
-            );
+        for (piece, told) in [
+            (&bytes[..at], (at, Cut::More)),
+            (&bytes[at..], (201 - at, Cut::TooLong)),
+            (b"\n", (0, Cut::TooLong)),
+            (b"", (0, Cut::TooLong)),
+            (b"a\n", (0, Cut::TooLong)),
+            (b"\na", (0, Cut::TooLong)),
+        ] {
+            same(&rt, &cutter.take(piece), &told, "201 bytes");
         }
     }
     Ok(())

@@ -1,127 +1,105 @@
-// Worked rows: that each call can succeed, and what it answers at known values.
+// Worked rows of the stand-ins: that each call can succeed, and what it answers at known values.
+ghost use Rattle.std.specs.Prelude.{IfOk};
+ghost use Rattle.dcr_fakes.specs.LinkState.{IsFresh};
+
 use crate::same::{same, same_bytes};
-use dcr_base::{Failed, ReadStop, Sink, Source, WriteFault, read_all, write_all};
-use dcr_fakes::{MemSink, MemSource};
-use std::process::Abort;
+use dcr_base::{Door, Failed, Link, Sink, Source, WriteFault, write_all};
+use dcr_fakes::{MemDoor, MemLink, MemSink, MemSource};
+use std::alloc::Global;
 use std::test::Fail;
-
-const TEXT: &[u8] = b"abcdefghijklmnopqrstuvwxyz";
-
-// That a read into so much room gives this piece.
-fn assert_read(rt: &impl Abort, source: &mut MemSource, room: usize, piece: &str) {
-    let mut buf = [b'-'; 10];
-    assert!(rt; room <= buf.len());
-    let read = source.read(&mut buf[..room]);
-    same(rt, &read, &Ok(piece.len()), piece);
-    assert!(rt; buf.starts_with(piece.as_bytes()), "{piece}");
-}
 
 #[test]
 fn a_source_gives_its_bytes_in_pieces(rt: HostRuntime) -> Result<(), Fail> {
-    // The step, the room of the buffer, and what the reads give.
+    // The step, the room of the buffer, which read fails, and what the reads give: `!` for a failure.
     let rows = [
-        (1, 4, ["a", "b", "c", "d"]),
-        (3, 4, ["abc", "def", "ghi", "j"]),
-        (3, 2, ["ab", "cd", "ef", "gh"]),
-        (4, 0, ["", "", "", ""]),
-        (7, 9, ["abcdefg", "hij", "", ""]),
-        (100, 4, ["abcd", "efgh", "ij", ""]),
-        (100, 10, ["abcdefghij", "", "", ""]),
+        (1, 4, 0, ["a", "b", "c", "d"]),
+        (3, 4, 0, ["abc", "def", "ghi", "j"]),
+        (3, 2, 0, ["ab", "cd", "ef", "gh"]),
+        (4, 0, 0, ["", "", "", ""]),
+        (7, 9, 0, ["abcdefg", "hij", "", ""]),
+        (100, 4, 0, ["abcd", "efgh", "ij", ""]),
+        (100, 10, 0, ["abcdefghij", "", "", ""]),
+        (3, 4, 2, ["abc", "!", "def", "ghi"]),
     ];
-    for (step, room, pieces) in rows {
+    for (step, room, failing, pieces) in rows {
         assert!(rt; step >= 1 && room <= 10);
         let bytes = Vec::from_slice(rt.alloc(), b"abcdefghij".as_slice())?;
-        let mut source = MemSource::new(bytes, step, Vec::new(rt.alloc()));
+        let mut source = MemSource::new(bytes, step, Vec::from_slice(rt.alloc(), &[failing])?);
         for piece in pieces {
-            assert_read(&rt, &mut source, room, piece);
+            let mut buf = [b'-'; 10];
+            let read = source.read(&mut buf[..room]);
+            let (told, front) = if piece == "!" {
+                (Err(Failed), "")
+            } else {
+                (Ok(piece.len()), piece)
+            };
+            same(&rt, &read, &told, piece);
+            let behind = buf.strip_prefix(front.as_bytes());
+            assert!(rt; behind.is_some_and(|rest| rest.iter().all(|byte| *byte == b'-')));
         }
     }
     Ok(())
 }
 
 #[test]
-fn a_source_fails_at_its_second_read_and_goes_on(rt: HostRuntime) -> Result<(), Fail> {
-    let bytes = Vec::from_slice(rt.alloc(), TEXT)?;
-    let failing = Vec::from_slice(rt.alloc(), [2].as_slice())?;
-    let mut source = MemSource::new(bytes, 3, failing);
-    let mut buf = [b'-'; 4];
-    same(&rt, &source.read(&mut buf), &Ok(3), "source.read(&mut buf)");
-    same(&rt, &buf, &*b"abc-", "buf");
-    same(
-        &rt,
-        &source.read(&mut buf),
-        &Err(Failed),
-        "source.read(&mut buf)",
-    );
-    same(&rt, &buf, &*b"abc-", "buf");
-    same(&rt, &source.read(&mut buf), &Ok(3), "source.read(&mut buf)");
-    same(&rt, &buf, &*b"def-", "buf");
-    Ok(())
-}
-
-#[test]
-fn a_read_that_fails_stops_the_reading(rt: HostRuntime) -> Result<(), Fail> {
-    // 26 bytes in pieces of 10: three reads give them, and the fourth gives the end.
-    for call in 1..=5 {
-        let bytes = Vec::from_slice(rt.alloc(), TEXT)?;
-        let failing = Vec::from_slice(rt.alloc(), [call].as_slice())?;
-        let mut source = MemSource::new(bytes, 10, failing);
-        match read_all(rt.alloc(), &mut source, 100) {
-            Ok(bytes) => assert!(rt; call == 5 && bytes.as_slice() == TEXT),
-            Err(stop) => assert!(rt; call < 5 && stop == ReadStop::ReadFault),
-        }
-    }
-    Ok(())
-}
-
-#[test]
-fn a_sink_takes_the_front_and_fails(rt: HostRuntime) {
-    for (room, want) in [
+fn a_sink_takes_the_front_and_fails(rt: HostRuntime) -> Result<(), Fail> {
+    for (room, told) in [
         (26, Ok(())),
         (20, Err(WriteFault { written: 20 })),
         (0, Err(WriteFault { written: 0 })),
     ] {
+        let text = b"abcdefghijklmnopqrstuvwxyz";
         let mut sink = MemSink::new(rt.alloc(), room);
-        assert!(rt; write_all(&mut sink, TEXT) == want, "room {room}");
-        assert!(rt; TEXT.starts_with(sink.taken()), "room {room}");
-        same(&rt, &sink.taken().len(), &room, "sink.taken().len()");
-        same(
-            &rt,
-            &sink.write(b""),
-            &Ok(0),
-            "a_sink_takes_the_front_and_fails",
-        );
+        same(&rt, &write_all(&mut sink, text), &told, "a room");
+        same(&rt, &sink.write(b""), &Ok(0), "a write of nothing");
+        assert!(rt; text.starts_with(sink.taken()) && sink.taken().len() == room);
     }
+    // Its second write fails, and it goes on.
+    let failing = Vec::from_slice(rt.alloc(), [2, 9].as_slice())?;
+    let mut sink = MemSink::failing(rt.alloc(), 5, failing);
+    for (text, told) in [
+        (b"abc", Ok(3)),
+        (b"def", Err(Failed)),
+        (b"ghi", Ok(2)),
+        (b"jkl", Err(Failed)),
+    ] {
+        same(&rt, &sink.write(text), &told, "a write");
+    }
+    same_bytes(&rt, sink.taken(), b"abcgh", "what was taken");
+    Ok(())
+}
+
+// A link that asks this, three bytes a read, and takes a hundred bytes.
+fn asking(alloc: Global, text: &[u8]) -> Result<MemLink, Fail>
+    ensures { IfOk result (λ link. IsFresh link) }
+{
+    let source = MemSource::new(Vec::from_slice(alloc, text)?, 3, Vec::new(alloc));
+    Ok(MemLink::new(source, MemSink::new(alloc, 100)))
 }
 
 #[test]
-fn a_sink_fails_at_its_second_write_and_goes_on(rt: HostRuntime) -> Result<(), Fail> {
-    let failing = Vec::from_slice(rt.alloc(), [2, 9].as_slice())?;
-    let mut sink = MemSink::failing(rt.alloc(), 5, failing);
-    same(
-        &rt,
-        &sink.write(b"abc"),
-        &Ok(3),
-        "a_sink_fails_at_its_second_write_and_goes_on",
-    );
-    same(
-        &rt,
-        &sink.write(b"def"),
-        &Err(Failed),
-        "a_sink_fails_at_its_second_write_and_goes_on",
-    );
-    same(
-        &rt,
-        &sink.write(b"ghi"),
-        &Ok(2),
-        "a_sink_fails_at_its_second_write_and_goes_on",
-    );
-    same(
-        &rt,
-        &sink.write(b"jkl"),
-        &Err(Failed),
-        "a_sink_fails_at_its_second_write_and_goes_on",
-    );
-    same_bytes(&rt, sink.taken(), b"abcgh".as_slice(), "sink.taken()");
+fn a_door_gives_two_links_and_is_shut(rt: HostRuntime) -> Result<(), Fail> {
+    let mut links = Vec::new(rt.alloc());
+    links.push(asking(rt.alloc(), b"look")?)?;
+    links.push(asking(rt.alloc(), b"two")?)?;
+    let mut door = MemDoor::new(links, Vec::from_slice(rt.alloc(), [2].as_slice())?);
+    let mut buf = [b'-'; 8];
+    let Ok(Some(mut link)) = door.next() else {
+        return Err(Fail::from("the first link is missing"));
+    };
+    same(&rt, &link.read(&mut buf), &Ok(3), "a link is read");
+    same_bytes(&rt, buf.as_slice(), b"loo-----", "a link is read");
+    same(&rt, &link.write(b"yes\n"), &Ok(4), "a link is answered");
+    let mut rest = link.finish();
+    same_bytes(&rt, rest.taken(), b"yes\n", "what a link took");
+    same(&rt, &rest.read(&mut buf), &Ok(1), "the rest of a link");
+    same_bytes(&rt, buf.as_slice(), b"koo-----", "the rest of a link");
+    assert!(rt; matches!(door.next(), Err(Failed)));
+    match door.next() {
+        Ok(Some(mut link)) => same(&rt, &link.read(&mut buf), &Ok(3), "the second link"),
+        _ => assert!(rt; false, "the second link is missing"),
+    }
+    same_bytes(&rt, buf.as_slice(), b"two-----", "the second link");
+    assert!(rt; matches!(door.next(), Ok(None)) && matches!(door.next(), Ok(None)));
     Ok(())
 }

@@ -4,17 +4,15 @@
 #[cfg(test)]
 mod adapters;
 #[cfg(test)]
-mod base;
-#[cfg(test)]
 mod cutter;
 #[cfg(test)]
 mod disk;
 #[cfg(test)]
 mod fakes;
 #[cfg(test)]
-mod links;
-#[cfg(test)]
 mod pool;
+#[cfg(test)]
+mod reading;
 #[cfg(test)]
 mod same;
 #[cfg(test)]

@@ -1,13 +1,18 @@
-// Each call of a set beside the same question put to a plain ascending list of numbers.
+// Each call of a set beside the same question put to each number, from none to past the largest room.
+ghost use Rattle.std.specs.Prelude.{◌≡◌, ◌≤◌, length};
+
 use crate::same::same_text;
-use dcr_set::{EventId, EventSet, MAX_ATOMS, NoMemory, SiteId};
-use std::alloc::{AllocError, AllocFailed, Global};
+use dcr_set::{EventId, EventSet, NoMemory, SiteId};
+use std::alloc::{AllocError, AllocFailed};
 use std::hash::{DefaultHasher, Hash, Hasher};
 use std::process::Abort;
 use std::test::Fail;
 
 // None, one, a word less one, a word, a word and one, four words, and the two largest.
 const ROOMS: [u16; 8] = [0, 1, 63, 64, 65, 256, 1023, 1024];
+
+// More numbers than there is room for.
+const PAST: u16 = 1100;
 
 // Which of the numbers below a room are members.
 #[derive(Clone, Copy, Debug)]
@@ -21,6 +26,7 @@ enum Members {
     WordEdges,
     Scattered,
     Alternating,
+    Only(u16),
     AllBut(u16),
 }
 
@@ -37,7 +43,7 @@ const MEMBERS: [Members; 8] = [
 
 impl Members {
     fn has(self, number: u16, room: u16) -> bool {
-        match self {
+        let is_member = match self {
             Members::Nobody => false,
             Members::Everybody => true,
             Members::Zero => number == 0,
@@ -47,248 +53,177 @@ impl Members {
             Members::WordEdges => matches!(number % 64, 0 | 1 | 62 | 63),
             Members::Scattered => number % 37 == 5,
             Members::Alternating => number % 2 == 0,
+            Members::Only(other) => number == other,
             Members::AllBut(other) => number != other,
-        }
-    }
-
-    // The members below the room, ascending.
-    fn list(self, alloc: Global, room: u16) -> Result<Vec<u16>, AllocError> {
-        let mut numbers = Vec::new(alloc);
-        for number in 0..room {
-            if self.has(number, room) {
-                numbers.push(number)?;
-            }
-        }
-        Ok(numbers)
+        };
+        number < room && is_member
     }
 }
 
-// The set with this room and these numbers, the last put in first.
-fn set_of(rt: &impl Abort, room: u16, numbers: &[u16]) -> EventSet {
-    assert!(rt; room <= MAX_ATOMS);
+// The set of this room with these members, the last put in first.
+fn set_of(room: u16, members: Members) -> EventSet
+    requires { room ≤ 1024 }
+    ensures { length result ≡ room }
+{
     let mut set = EventSet::new(room);
-    for &number in numbers.iter().rev() {
-        assert!(rt; number < set.room());
-        set.insert(EventId(number));
+    for number in (0..room).rev() {
+        if members.has(number, room) {
+            set.insert(EventId(number));
+        }
     }
     set
 }
 
-fn first_of(numbers: &[u16]) -> Option<EventId> {
-    numbers.first().map(|&number| EventId(number))
-}
-
-// Whether every call that reads one set gives what the list has.
-fn holds(set: &EventSet, numbers: &[u16]) -> bool {
-    let mut listed = [false; 1100];
+// Whether every call that reads one set tells these members.
+fn is_just(set: &EventSet, members: Members) -> bool {
+    let room = set.room();
     let mut events = set.iter();
-    for &number in numbers {
-        if let Some(place) = listed.get_mut(usize::from(number)) {
-            *place = true;
+    for number in 0..PAST {
+        let is_member = members.has(number, room);
+        if set.contains(EventId(number)) != is_member {
+            return false;
         }
-        if events.next() != Some(EventId(number)) {
+        if is_member && events.next() != Some(EventId(number)) {
             return false;
         }
     }
-    for (number, &wanted) in (0..1100).zip(listed.iter()) {
-        if set.contains(EventId(number)) != wanted {
-            return false;
-        }
-    }
-    let ended = events.next().is_none() && events.next().is_none();
-    ended && !set.contains(EventId(u16::MAX)) && set.first() == first_of(numbers)
+    let has_ended = events.next().is_none() && events.next().is_none();
+    has_ended && set.first() == set.iter().next() && !set.contains(EventId(u16::MAX))
 }
 
 // A number goes into an empty set alone, and comes out of a full one alone. Each is done twice.
-fn assert_moves_alone(rt: &impl Abort, room: u16, number: u16, all: &[u16], others: &[u16]) {
-    let mut empty = set_of(rt, room, &[]);
-    let mut full = set_of(rt, room, all);
+fn assert_moves_alone(rt: &impl Abort, room: u16, number: u16) {
+    assert!(rt; number < room && room <= 1024);
+    let mut alone = EventSet::new(room);
+    let mut others = set_of(room, Members::Everybody);
     for _ in 0..2 {
-        assert!(rt; number < empty.room());
-        empty.insert(EventId(number));
-        assert!(rt; holds(&empty, &[number]), "room {room}, {number} alone");
-        full.remove(EventId(number));
-        assert!(rt; holds(&full, others), "room {room}, all but {number}");
-    }
-    empty.remove(EventId(number));
-    assert!(rt; holds(&empty, &[]), "room {room}, not even {number}");
-}
-
-// What is not below the room comes out of a set with no change.
-fn assert_stays_whole(rt: &impl Abort, room: u16, all: &[u16]) {
-    let mut full = set_of(rt, room, all);
-    for past in [room, 1024, 1025, 1088, u16::MAX] {
-        full.remove(EventId(past));
+        assert!(rt; number < alone.room());
+        alone.insert(EventId(number));
+        others.remove(EventId(number));
         assert!(rt;
-            full.room() == room && holds(&full, all),
-            "room {room}, {past}"
+            is_just(&alone, Members::Only(number)) && is_just(&others, Members::AllBut(number)),
+            "room {room}, {number}"
         );
     }
+    alone.remove(EventId(number));
+    assert!(rt;
+        is_just(&alone, Members::Nobody),
+        "room {room}, not even {number}"
+    );
 }
 
 #[test]
-fn one_event_comes_and_goes_alone(rt: HostRuntime) -> Result<(), Fail> {
+fn one_event_comes_and_goes_alone(rt: HostRuntime) {
     for room in ROOMS {
-        let all = Members::Everybody.list(rt.alloc(), room)?;
-        assert_stays_whole(&rt, room, &all);
-        for number in Members::WordEdges.list(rt.alloc(), room)? {
-            let others = Members::AllBut(number).list(rt.alloc(), room)?;
-            assert_moves_alone(&rt, room, number, &all, &others);
+        assert!(rt; room <= 1024);
+        let mut full = set_of(room, Members::Everybody);
+        // What is not below the room comes out of a set with no change.
+        for past in [room, 1024, 1025, 1088, u16::MAX] {
+            full.remove(EventId(past));
+        }
+        assert!(rt;
+            full.room() == room && is_just(&full, Members::Everybody),
+            "room {room}"
+        );
+        for number in 0..room {
+            if Members::WordEdges.has(number, room) {
+                assert_moves_alone(&rt, room, number);
+            }
         }
     }
-    Ok(())
 }
 
-// The numbers that either has.
-fn either_of(alloc: Global, room: u16, one: Members, two: Members) -> Result<Vec<u16>, AllocError> {
-    let mut numbers = Vec::new(alloc);
-    for number in 0..room {
-        if one.has(number, room) || two.has(number, room) {
-            numbers.push(number)?;
+// Two sets by each call that joins two, which leave both as they were.
+fn assert_joins(rt: &impl Abort, room: u16, one: Members, two: Members) {
+    assert!(rt; room <= 1024);
+    let (first, second) = (set_of(room, one), set_of(room, two));
+    let (mut either, mut both, mut left) = (first.copy(), first.copy(), first.copy());
+    either.union_with(&second);
+    both.keep_with(&second);
+    left.minus_with(&second);
+    let (joined, common) = (first.joined(&second), first.common(&second));
+    let mut least = None;
+    for number in (0..PAST).rev() {
+        let e = EventId(number);
+        let (a, b) = (one.has(number, room), two.has(number, room));
+        if a && b {
+            least = Some(e);
         }
+        assert!(rt;
+            either.contains(e) == (a || b)
+                && joined.contains(e) == (a || b)
+                && both.contains(e) == (a && b)
+                && common.contains(e) == (a && b)
+                && left.contains(e) == (a && !b),
+            "room {room}, {one:?} and {two:?}, {number}"
+        );
     }
-    Ok(numbers)
-}
-
-// The numbers of a list that others have, and those that they have not.
-fn split(
-    alloc: Global,
-    room: u16,
-    numbers: &[u16],
-    others: Members,
-) -> Result<(Vec<u16>, Vec<u16>), AllocError> {
-    let mut both = Vec::new(alloc);
-    let mut left = Vec::new(alloc);
-    for &number in numbers {
-        if others.has(number, room) {
-            both.push(number)?;
-        } else {
-            left.push(number)?;
-        }
-    }
-    Ok((both, left))
-}
-
-// Two sets by each call that joins two.
-fn assert_joins(
-    rt: &impl Abort,
-    first: &EventSet,
-    second: &EventSet,
-    either: &[u16],
-    both: &[u16],
-    left: &[u16],
-) {
-    assert!(rt; first.room() == second.room());
-    let mut set = first.copy();
-    set.union_with(second);
-    assert!(rt; holds(&set, either), "either: {either:?}");
-    let mut set = first.copy();
-    set.keep_with(second);
-    assert!(rt; holds(&set, both), "both: {both:?}");
-    let mut set = first.copy();
-    set.minus_with(second);
-    assert!(rt; holds(&set, left), "left: {left:?}");
-    let set = first.joined(second);
-    assert!(rt; holds(&set, either), "either: {either:?}");
-    let set = first.common(second);
-    assert!(rt; holds(&set, both), "both: {both:?}");
-    assert!(rt; first.meets(second) != both.is_empty(), "both: {both:?}");
     assert!(rt;
-        first.first_common(second) == first_of(both),
-        "both: {both:?}"
+        first.first_common(&second) == least
+            && first.meets(&second) == least.is_some()
+            && is_just(&first, one)
+            && is_just(&second, two),
+        "room {room}, {one:?} and {two:?}"
     );
 }
 
 // The first of two sets that a third has too, and the first that it has not.
-fn assert_firsts(
-    rt: &impl Abort,
-    first: &EventSet,
-    second: &EventSet,
-    third: &EventSet,
-    within: &[u16],
-    without: &[u16],
-) {
-    assert!(rt; first.room() == second.room() && first.room() == third.room());
-    let found = first.first_common_three(second, third);
-    assert!(rt; found == first_of(within), "within: {within:?}");
-    let found = first.first_common_without(second, third);
-    assert!(rt; found == first_of(without), "without: {without:?}");
-}
-
-// Two sets, whose common numbers are listed, with each third.
-fn assert_thirds(
-    rt: &impl Abort,
-    alloc: Global,
-    first: &EventSet,
-    second: &EventSet,
-    both: &[u16],
-) -> Result<(), AllocError> {
-    let room = first.room();
-    for three in MEMBERS {
-        let third = set_of(rt, room, &three.list(alloc, room)?);
-        let (within, without) = split(alloc, room, both, three)?;
-        assert_firsts(rt, first, second, &third, &within, &without);
-    }
-    Ok(())
-}
-
-// Two sets by every call that joins sets, which leave the first as it was.
-fn assert_sets(
-    rt: &impl Abort,
-    alloc: Global,
-    room: u16,
-    one: Members,
-    two: Members,
-) -> Result<(), AllocError> {
-    let list = one.list(alloc, room)?;
-    let (both, left) = split(alloc, room, &list, two)?;
-    let either = either_of(alloc, room, one, two)?;
-    let first = set_of(rt, room, &list);
-    let second = set_of(rt, room, &two.list(alloc, room)?);
-    assert_joins(rt, &first, &second, &either, &both, &left);
-    assert_thirds(rt, alloc, &first, &second, &both)?;
-    assert!(rt; holds(&first, &list), "room {room}, {one:?}");
-    Ok(())
-}
-
-#[test]
-fn sets_join_as_their_lists_do(rt: HostRuntime) -> Result<(), Fail> {
-    for room in ROOMS {
-        for one in MEMBERS {
-            for two in MEMBERS {
-                assert_sets(&rt, rt.alloc(), room, one, two)?;
+fn assert_firsts(rt: &impl Abort, room: u16, one: Members, two: Members, three: Members) {
+    assert!(rt; room <= 1024);
+    let (first, second, third) = (set_of(room, one), set_of(room, two), set_of(room, three));
+    let (mut within, mut without) = (None, None);
+    for number in (0..room).rev() {
+        if one.has(number, room) && two.has(number, room) {
+            if three.has(number, room) {
+                within = Some(EventId(number));
+            } else {
+                without = Some(EventId(number));
             }
         }
     }
-    Ok(())
+    assert!(rt;
+        first.first_common_three(&second, &third) == within
+            && first.first_common_without(&second, &third) == without,
+        "room {room}, {one:?}, {two:?} and {three:?}"
+    );
+}
+
+#[test]
+fn sets_join_as_their_members_do(rt: HostRuntime) {
+    for room in ROOMS {
+        for one in MEMBERS {
+            for two in MEMBERS {
+                assert_joins(&rt, room, one, two);
+                for three in MEMBERS {
+                    assert_firsts(&rt, room, one, two, three);
+                }
+            }
+        }
+    }
 }
 
 // From each number on, the least member and the least number that is none: told from the last number down.
-fn assert_runs(rt: &impl Abort, set: &EventSet, members: Members) {
-    let room = set.room();
+fn assert_runs(rt: &impl Abort, room: u16, members: Members) {
+    assert!(rt; room <= 1024);
+    let set = set_of(room, members);
     let mut first = None;
     let mut missing = room;
     for from in (0..room + 3).rev() {
-        if from < room && members.has(from, room) {
+        if members.has(from, room) {
             first = Some(EventId(from));
         } else {
             missing = from;
         }
         assert!(rt;
-            set.first_from(from) == first,
-            "room {room}, {members:?}, {from}"
-        );
-        assert!(rt;
-            set.first_missing_from(from) == missing,
+            set.first_from(from) == first && set.first_missing_from(from) == missing,
             "room {room}, {members:?}, {from}"
         );
     }
-    assert!(rt; set.first_from(u16::MAX).is_none());
-    assert!(rt; set.first_missing_from(u16::MAX) == u16::MAX);
+    assert!(rt; set.first_from(u16::MAX).is_none() && set.first_missing_from(u16::MAX) == u16::MAX);
 }
 
 #[test]
-fn runs_begin_and_end_where_their_lists_do(rt: HostRuntime) -> Result<(), Fail> {
+fn runs_begin_and_end_where_their_members_do(rt: HostRuntime) {
     for room in [0, 1, 63, 64, 65, 128, 1024] {
         for members in [
             Members::Nobody,
@@ -297,11 +232,9 @@ fn runs_begin_and_end_where_their_lists_do(rt: HostRuntime) -> Result<(), Fail> 
             Members::WordEdges,
             Members::Alternating,
         ] {
-            let set = set_of(&rt, room, &members.list(rt.alloc(), room)?);
-            assert_runs(&rt, &set, members);
+            assert_runs(&rt, room, members);
         }
     }
-    Ok(())
 }
 
 fn hash_of(value: &impl Hash) -> u64 {
@@ -318,15 +251,10 @@ fn numbers_and_the_error_have_their_derived_parts(rt: HostRuntime) -> Result<(),
     assert!(rt; site == same_site && site < SiteId(4) && site.max(SiteId(2)) == site);
     assert!(rt; hash_of(&event) == hash_of(&same_event) && hash_of(&event) != hash_of(&EventId(3)));
     assert!(rt; hash_of(&site) == hash_of(&same_site) && hash_of(&site) != hash_of(&SiteId(2)));
-
     let error = NoMemory::from(AllocError);
     assert!(rt; error == NoMemory::from(AllocFailed { value: event }));
     let printed = format!(in rt.alloc(); "{event:?}, {site:?}, {error:?}: {error}")?;
-    same_text(
-        &rt,
-        printed.as_str(),
-        "EventId(2), SiteId(3), NoMemory: out of memory",
-        "printed.as_str()",
-    );
+    let wanted = "EventId(2), SiteId(3), NoMemory: out of memory";
+    same_text(&rt, printed.as_str(), wanted, "derived parts");
     Ok(())
 }
