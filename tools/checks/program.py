@@ -18,7 +18,7 @@ PROGRAM = os.path.join(TOP, "crates/dcr/out/dcr")
 DONE, USAGE, REFUSED, READ_FAULT, WRITE_FAULT, NO_MEMORY, DISK_FAULT, INVALID, TAPE_REFUSED, DOOR_FAULT = 0, 2, 3, 4, 5, 6, 7, 8, 10, 11
 
 
-@functools.cache
+@functools.lru_cache(maxsize=None)
 def prepare():
     """Builds the program where `./dcr` finds that it isn't built."""
     subprocess.run([os.path.join(TOP, "dcr"), "run"], input=read("examples/first.json"), stdout=subprocess.DEVNULL)
@@ -251,11 +251,11 @@ def check_a_tape_that_can_not_be_opened_is_a_disk_fault():
     with tempfile.TemporaryDirectory() as folder:
         os.mkdir(os.path.join(folder, "dcr.tape"))
         told = stored(folder, read("examples/medication.json"))
-        want(told == (DISK_FAULT, b"", b""), str(told))
+        want(told == (DISK_FAULT, b"", b"dcr: the file dcr.tape could not be opened, read or written\n"), str(told))
     with tempfile.TemporaryDirectory() as folder:
         os.symlink("/nowhere/dcr.tape", os.path.join(folder, "dcr.tape"))
         told = stored(folder, read("examples/medication.json"))
-        want(told == (DISK_FAULT, b"", b""), str(told))
+        want(told == (DISK_FAULT, b"", b"dcr: the file dcr.tape could not be opened, read or written\n"), str(told))
 
 
 def check_a_tape_that_may_not_grow_ends_the_run():
@@ -275,7 +275,7 @@ def check_a_tape_that_may_not_grow_ends_the_run():
 def check_a_folder_as_input_is_a_read_fault():
     for word in ["run", "replay"]:
         told = in_shell('"$@" <"%s"' % EXAMPLES, word, stdin=subprocess.DEVNULL)
-        want(told[:2] == (READ_FAULT, b""), "%s gives %s" % (word, told))
+        want(told == (READ_FAULT, b"", b"dcr: the input failed as it was read; nothing was written\n"), "%s gives %s" % (word, told))
 
 
 def check_an_input_that_can_only_be_written_is_a_read_fault():

@@ -2,17 +2,28 @@
 
 import contextlib
 import fcntl
+import json
 import os
+import re
+import shutil
+import signal
 import socket
 import subprocess
+import sys
 import tempfile
 import time
 
-from checks import TOP, read, want
+from checks import TOP, NotTried, read, want
 from checks.program import DISK_FAULT, DONE, DOOR_FAULT, PROGRAM, USAGE, dcr, prepare  # noqa: F401
 
 ADDRESS = ("127.0.0.1", 7411)
 CLIENT = os.path.join(TOP, "examples/client.py")
+# What a serving says on standard error, line by line.
+SAID = re.compile(
+    r"dcr: (listening on 127\.0\.0\.1:7411 for \d+ sessions(; a silent client holds a worker, so give as many workers as sessions, up to 64)?|127\.0\.0\.1:7411 can't be listened on: .+|no connection could be taken"
+    r"|session \d+ begins|session \d+ has ended: (the client has ended it|it was ended here, as its last reply says"
+    r"|the connection failed as (it was read|a reply was written))|the .+; the report is whole|the file dcr\.tape could not be .+)"
+)
 
 
 @contextlib.contextmanager
@@ -39,9 +50,15 @@ class Serving:
         self.process.wait()
 
     def ended(self):
-        """The status, and what was written."""
+        """The status, and what was written. What it said on standard error is kept, and is of the known form."""
         wrote, said = self.process.communicate(timeout=60)
-        want(not said, "it says %s" % said)
+        self.said = said.decode()
+        wrong = [it for it in self.said.splitlines() if not SAID.fullmatch(it)]
+        want(not wrong, "it says %s" % wrong)
+        begun, over = re.findall(r"session (\d+) begins", self.said), re.findall(r"session (\d+) has ended", self.said)
+        # (a signal cuts sessions off without a word)
+        is_whole = {*over} <= {*begun} if self.process.returncode < 0 else sorted(over) == sorted(begun)
+        want(begun == [str(it) for it in range(len(begun))] and is_whole, "it says %s" % self.said)
         return self.process.returncode, wrote
 
 
@@ -124,6 +141,18 @@ def check_a_session_that_is_cut_off_ends_alone():
         want(last.asks(b"exec doctor s") == b"1 2 0 exec doctor s done\n" and last.ends() == b"", "the last one isn't answered")
         status, report = serving.ended()
         want(status == DONE and report.endswith(b"end 2\n"), "status %d and another report" % status)
+        said = ["listening on 127.0.0.1:7411 for 3 sessions; a silent client holds a worker, so give as many workers as sessions, up to 64", "session 0 begins", "session 0 has ended: the connection failed as it was read"]
+        said += ["session 1 begins", "session 1 has ended: it was ended here, as its last reply says", "session 2 begins", "session 2 has ended: the client has ended it"]
+        want(serving.said == "".join("dcr: %s\n" % it for it in said), "it says %s" % serving.said)
+
+
+def check_nothing_is_said_where_standard_error_is_closed():
+    with the_port(), open(os.path.join(TOP, "examples/medication.json"), "rb") as file:
+        command = 'exec "$@" 2>&-'
+        with subprocess.Popen(["sh", "-c", command, "sh", PROGRAM, "serve", "--sessions", "1", "--workers", "1"], stdin=file, stdout=subprocess.PIPE) as ran:
+            want(Session().ends() == b"", "more is answered than was asked")
+            wrote = ran.communicate(timeout=60)[0]
+    want(ran.returncode == DONE and wrote.endswith(b"\nend 0\n"), "status %d and %s" % (ran.returncode, wrote))
 
 
 def check_a_port_that_another_has_is_a_door_fault():
@@ -131,6 +160,9 @@ def check_a_port_that_another_has_is_a_door_fault():
         with Serving(1, 1) as serving:
             status, report = serving.ended()
             want(status == DOOR_FAULT and report.endswith(b"\nend 0\n"), "status %d and another report" % status)
+            lines = serving.said.splitlines()
+            want(lines[0].startswith("dcr: 127.0.0.1:7411 can't be listened on: ") and "in use" in lines[0].lower(), "it says %s" % serving.said)
+            want(lines[-1].startswith("dcr: the port 7411 could not be had") and lines[-1].endswith("; the report is whole"), "it says %s" % serving.said)
 
 
 def check_what_was_answered_is_on_the_tape():
@@ -172,3 +204,110 @@ def check_the_client():
         wanted = b"0 0 0 exec doctor pm done\n1 0 1 exec nurse gm condition s\n2 0 2 accepting waits s\n"
         want((asked.returncode, asked.stdout) == (0, wanted), "it prints %s" % asked.stdout)
         want(serving.ended()[0] == DONE, "it ends otherwise")
+
+
+# ---- a serving that is ended early, and what may stand before it
+
+
+def end_serving(*words):
+    ran = subprocess.run([sys.executable, os.path.join(TOP, "tools/end_serving.py"), *words], stdout=subprocess.PIPE, stderr=subprocess.PIPE, timeout=120)
+    return ran.returncode, ran.stdout.decode() + ran.stderr.decode()
+
+
+def check_a_serving_is_ended_early_with_its_report():
+    for sessions, workers in [(40, 3), (2, 64)]:
+        with the_port(), Serving(sessions, workers) as serving:
+            first = Session()
+            want(first.asks(b"exec doctor pm") == b"0 0 0 exec doctor pm done\n" and first.ends() == b"", "it isn't answered")
+            status, said = end_serving("--wait", "60")
+            want((status, said) == (0, "%d sessions were opened and closed; nobody listens at 127.0.0.1:7411\n" % (sessions - 1)), "%d %s" % (status, said))
+            status, report = serving.ended()
+            want(status == DONE and report.endswith(b"end 1\n") and dcr("replay", given=report) == (DONE, b"valid 1\n", b""), "status %d and another report" % status)
+
+
+def check_nobody_who_is_connected_is_cut_off():
+    with the_port(), Serving(5, 2) as serving:
+        one, other = Session(), Session()
+        want(one.asks(b"exec doctor pm").endswith(b" done\n") and other.asks(b"accepting").endswith(b" waits s\n"), "they aren't answered")
+        status, said = end_serving("--wait", "1")
+        want(status == 1 and said.startswith("0 sessions") and "hold all workers" in said, "%d %s" % (status, said))
+        want(one.asks(b"exec doctor s").endswith(b" done\n") and one.ends() == b"", "it is cut off")
+        status, said = end_serving("--wait", "2")
+        want(status == 1 and "They have to end first" in said, "%d %s" % (status, said))
+        want(other.asks(b"accepting").endswith(b" waits gm\n") and other.ends() == b"", "the other one is cut off")
+        status, report = serving.ended()
+        want(status == DONE and report.endswith(b"end 4\n"), "status %d and another report" % status)
+
+
+def check_what_listens_there_and_is_no_dcr_is_left_alone():
+    with the_port():
+        want(end_serving() == (0, "0 sessions were opened and closed; nobody listens at 127.0.0.1:7411\n"), "where nobody listens")
+        with socket.create_server(ADDRESS) as other:
+            other.settimeout(60)
+            ran = subprocess.Popen([sys.executable, os.path.join(TOP, "tools/end_serving.py")], stdout=subprocess.PIPE, stderr=subprocess.PIPE)
+            link, _ = other.accept()
+            link.sendall(b"HTTP/1.1 400 Bad Request\r\n")
+            wrote, said = ran.communicate(timeout=60)
+            want(ran.returncode == 2 and not wrote and b"no dcr" in said, "%d %s%s" % (ran.returncode, wrote, said))
+            link.close()
+
+
+def check_a_signal_ends_a_serving_and_its_tape_has_what_was_answered():
+    for number in (signal.SIGTERM, signal.SIGINT):
+        with the_port(), tempfile.TemporaryDirectory() as folder:
+            with Serving(3, 2, "--store", folder=folder) as serving:
+                session = Session()
+                want(session.asks(b"exec doctor pm") == b"0 0 0 exec doctor pm done\n", "it isn't answered")
+                serving.process.send_signal(number)
+                want(serving.ended() == (-number, b""), "it ends otherwise")
+                session.replies.close()
+                session.link.close()
+            report = dcr("run", "--store", given=without_sessions(), cwd=folder)[1]
+            want(b"\nopen executed pm pending s,gm included pm,s,gm,dt\n" in report, "the tape has %s" % report)
+
+
+def without_sessions():
+    case = json.loads(read("examples/medication.json"))
+    del case["sessions"]
+    return json.dumps(case).encode()
+
+
+def certificate(folder, name, subject):
+    """A certificate of its own, with its key: name.crt, and name.pem with both."""
+    path = os.path.join(folder, name)
+    made = ["openssl", "req", "-x509", "-newkey", "rsa:2048", "-nodes", "-days", "2", "-subj", "/CN=" + subject, "-addext", "subjectAltName=DNS:" + subject]
+    subprocess.run([*made, "-keyout", path + ".key", "-out", path + ".crt"], check=True, stderr=subprocess.DEVNULL, timeout=120)
+    with open(path + ".pem", "wb") as file:
+        for ending in (".key", ".crt"):
+            with open(path + ending, "rb") as part:
+                file.write(part.read())
+
+
+def check_a_front_with_certificates_keeps_strangers_out():
+    for name in ("socat", "openssl"):
+        if not shutil.which(name):
+            raise NotTried("%s is not on the path" % name)
+    front, client = re.findall(r"^socat .*OPENSSL.*$", read("docs/GUIDE.md").decode(), re.M)
+    with the_port(), tempfile.TemporaryDirectory() as folder:
+        for name, subject in [("server", "the.machine"), ("client", "nurse"), ("stranger", "stranger")]:
+            certificate(folder, name, subject)
+        os.rename(os.path.join(folder, "client.crt"), os.path.join(folder, "clients.crt"))
+        with Serving(1, 1) as serving:
+            stands = subprocess.Popen(front.split(), cwd=folder, stderr=subprocess.DEVNULL)
+            try:
+                # (a scan, once it listens; a client without a certificate, and one with another)
+                for _ in range(400):
+                    with contextlib.suppress(ConnectionRefusedError), socket.create_connection(("127.0.0.1", 7412), timeout=60):
+                        break
+                    time.sleep(0.05)
+                own = client.replace("the.machine:7412", "127.0.0.1:7412,commonname=the.machine")
+                for other in (own.replace("cert=client.pem,", ""), own.replace("client.pem", "stranger.pem")):
+                    ran = subprocess.run(other.split(), input=b"exec doctor pm\n", cwd=folder, stdout=subprocess.PIPE, stderr=subprocess.DEVNULL, timeout=120)
+                    want(b"done" not in ran.stdout, "a stranger is answered: %s" % ran.stdout)
+                ran = subprocess.run(own.split(), input=b"exec doctor pm\nexec nurse gm\n", cwd=folder, stdout=subprocess.PIPE, stderr=subprocess.PIPE, timeout=120)
+                want(ran.stdout == b"0 0 0 exec doctor pm done\n1 0 1 exec nurse gm condition s\n", "the client is answered %s%s" % (ran.stdout, ran.stderr))
+                status, report = serving.ended()
+                want(status == DONE and report.endswith(b"end 2\n"), "status %d and another report" % status)
+            finally:
+                stands.kill()
+                stands.wait()

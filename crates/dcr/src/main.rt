@@ -10,12 +10,14 @@ ghost use Rattle.dcr_base.specs.Status.{code_of};
 ghost use Rattle.dcr_app.specs.Telling.{doors_of};
 ghost use Rattle.dcr.specs.Exit.{Exits, IsUntouched};
 
+mod telling;
+
+use crate::telling::{TellingDoor, number_behind, tell_failure};
 use dcr_app::{Status, dcr};
 use dcr_base::{Disk, Door, FileDisk, Gate, Link, OpenGate, Sink, Source, StdSink, StdSource};
-use dcr_serve::TcpDoor;
 use std::alloc::Global;
 use std::fs::File;
-use std::io::ErrorKind;
+use std::io::{Eprint, ErrorKind};
 use std::process::ExitCode;
 use std::sync::Wait;
 use std::thread::Threads;
@@ -39,13 +41,15 @@ fn main(rt: HostRuntime) -> ExitCode {
         return exit_of(Status::NoMemory);
     };
     let disk = FileDisk::new(rt.alloc(), files);
+    let sessions = number_behind(env::args(&rt), "--sessions");
+    let workers = number_behind(env::args(&rt), "--workers");
     program(
         &rt,
         rt.alloc(),
         env::args(&rt),
         &mut input,
         &mut output,
-        TcpDoor::new(&rt, PORT),
+        TellingDoor::new(&rt, PORT, sessions, workers),
         disk,
         OpenGate,
     )
@@ -60,7 +64,7 @@ fn program<
     B: Door<Link: Link<Rest: Drop + Send> + Send> + Drop + Send,
     D: Disk + Drop + Send,
     G: Gate + Drop + Sync,
-    R: Threads + Wait + Sync,
+    R: Threads + Wait + Eprint + Sync,
 >(
     rt: &R,
     alloc: Global,
@@ -103,7 +107,7 @@ fn answer<
     B: Door<Link: Link<Rest: Drop + Send> + Send> + Drop + Send,
     D: Disk + Drop + Send,
     G: Gate + Drop + Sync,
-    R: Threads + Wait + Sync,
+    R: Threads + Wait + Eprint + Sync,
 >(
     rt: &R,
     alloc: Global,
@@ -120,6 +124,7 @@ fn answer<
         (I.has_ended input.new) (exit_status result) }
 {
     let end = dcr(rt, alloc, words, input, output, door, disk, gate);
+    tell_failure(rt, end.status);
     exit_of(end.status)
 }
 
