@@ -10,8 +10,10 @@ libraries are kept in crates/dcr/out/libraries, from where a later call goes on:
 files, a crate below it or the kit changed.
 
 Libraries are kept as statements: what the crates above can cite of them, without their proofs, so that little is read
-again above. Of the crates that are ready, the one with the most to prove above it goes first and has a process for each
-processor; the others have one each, and mostly what the first one leaves of the processors.
+again above. Of the crates that are ready, the one with the most seconds of proving left on its way up to the program goes
+first and has a process for each processor, the one behind it has two, and the others have one each, and mostly what those
+leave of the processors. The seconds are those of tools/seconds, as they were measured; what each crate took in a build
+stands in crates/dcr/out/libraries/seconds, in the same form.
 """
 
 import hashlib
@@ -31,6 +33,9 @@ PARTS = ("src", "specs", "proofs")
 # What a crate that is proved takes of memory, in bytes; and how far the crate that goes first, the one behind it and the
 # others stand back from the processors.
 MEMORY, NICE = 2_500_000_000, ("0", "5", "12")
+# The processor seconds that crates take to prove, as they were measured, and for one that isn't there the seconds that a
+# byte of its code takes, near enough.
+SECONDS, OF_A_BYTE = os.path.join(TOP, "tools/seconds"), 0.004
 
 
 class Crate:
@@ -45,11 +50,11 @@ class Crate:
 
     def files(self):
         walked = [os.walk(os.path.join(self.folder, part)) for part in PARTS]
-        return sorted(os.path.join(at, name) for walk in walked for at, _, names in walk for name in names)
+        return sorted(os.path.join(at, name) for walk in walked for at, _, names in walk for name in names if name.endswith((".rt", ".antt")))
 
-    def weight(self):
-        """What it costs to prove, near enough: the bytes of its code."""
-        return sum(os.path.getsize(file) for file in self.files() if file.endswith(".rt"))
+    def seconds(self, measured):
+        """The processor seconds that it takes to prove, near enough."""
+        return measured.get(self.name) or OF_A_BYTE * sum(os.path.getsize(file) for file in self.files() if file.endswith(".rt"))
 
     def sum(self, kit):
         """A checksum of all that the crate is made from. Of a crate below it is that of the one build that made it."""
@@ -116,6 +121,29 @@ def crates_of_the_program():
     return [*found.values()]
 
 
+def measured_seconds(path=SECONDS):
+    """The processor seconds that each crate took when they were measured; none where nobody did."""
+    if not os.path.exists(path):
+        return {}
+    with open(path) as file:
+        return {name: float(seconds) for name, seconds in (line.split() for line in file if line[:1] != "#")}
+
+
+def used_seconds(group):
+    """The processor seconds that a group of processes has used so far."""
+    used = 0
+    for name in os.listdir("/proc"):
+        if name.isdigit():
+            try:
+                with open("/proc/%s/stat" % name) as file:
+                    # (behind the name in brackets: the state, the parent, the group, .., the ticks of it and of its children)
+                    words = file.read().rpartition(")")[2].split()
+            except OSError:
+                continue
+            used += sum(map(int, words[11:15])) if int(words[2]) == group else 0
+    return used / os.sysconf("SC_CLK_TCK")
+
+
 def remove(path):
     """Removes a file or a folder, where it is there."""
     if os.path.isdir(path):
@@ -130,11 +158,12 @@ class Build:
     def __init__(self, kit, crates, log):
         self.kit, self.crates, self.log = kit, crates, log
         self.begun, self.built, self.running, self.told = time.monotonic(), [], {}, None
-        self.signal = 0
-        above = {it: [user for user in crates if it in user.uses] for it in crates}
-        self.way = {}
+        self.signal, self.took = 0, {}
+        above, measured = {it: [user for user in crates if it in user.uses] for it in crates}, measured_seconds()
+        # The seconds on the way from each crate up to the program: its own, and those of the longest way above it.
+        self.own, self.above = {it: it.seconds(measured) for it in crates}, {}
         for it in reversed(crates):
-            self.way[it] = it.weight() + max([self.way[user] for user in above[it]], default=0)
+            self.above[it] = max([self.own[user] + self.above[user] for user in above[it]], default=0)
 
     def tell(self):
         """Tells how far the build is."""
@@ -154,18 +183,23 @@ class Build:
             available = int(re.search(r"MemAvailable: +(\d+)", file.read()).group(1)) * 1024
         return max(1, min(2 * len(os.sched_getaffinity(0)), len(self.running) + available // MEMORY))
 
+    def left(self, crate):
+        """The seconds that are left on the way from this crate up to the program."""
+        used = used_seconds(self.running[crate][0].pid) if crate in self.running else 0
+        return max(self.own[crate] - used, 0) + self.above[crate]
+
     def begin(self):
         """Begins with the crates that are ready, the one with the longest way up to the program first."""
         waiting = [it for it in self.crates if it not in self.built and it not in self.running]
-        ready = sorted([it for it in waiting if {*it.uses} <= {*self.built}], key=self.way.get, reverse=True)
+        ready = sorted([it for it in waiting if {*it.uses} <= {*self.built}], key=self.left, reverse=True)
         for crate in ready:
             if len(self.running) >= self.most():
                 break
             if crate.is_built(self.kit):
                 self.built.append(crate)
                 continue
-            ahead = sum(self.way[it] >= self.way[crate] for it in self.running)
-            words = crate.words(self.kit, 1 if ahead else len(os.sched_getaffinity(0)))
+            ahead, processors = sum(self.left(it) >= self.left(crate) for it in self.running), len(os.sched_getaffinity(0))
+            words = crate.words(self.kit, processors if not ahead else min(2, processors) if ahead == 1 else 1)
             remove(crate.stamp)
             remove(crate.made)
             said, was = tempfile.TemporaryFile(), crate.sum(self.kit)
@@ -174,10 +208,19 @@ class Build:
             ran = subprocess.Popen(["nice", "-n", NICE[min(ahead, 2)], *words], preexec_fn=os.setpgrp, **how)
             self.running[crate] = ran, said, was
 
+    def is_running(self, crate, ran):
+        """Whether the crate is still proved. Where it has ended, what it took of the processors is noted."""
+        if ran.returncode is None:
+            pid, status, used = os.wait4(ran.pid, os.WNOHANG)
+            if pid:
+                ran.returncode = os.WEXITSTATUS(status) if os.WIFEXITED(status) else -os.WTERMSIG(status)
+                self.took[crate.name] = used.ru_utime + used.ru_stime
+        return ran.returncode is None
+
     def end(self):
         """Takes in the crates that have ended. False where one was refused."""
         for crate, (ran, said, was) in [*self.running.items()]:
-            if ran.poll() is None:
+            if self.is_running(crate, ran):
                 continue
             del self.running[crate]
             said.seek(0)
@@ -194,6 +237,13 @@ class Build:
                 it.write("%s %s\n" % (was, os.urandom(8).hex()))
             self.built.append(crate)
         return True
+
+    def note(self):
+        """Notes what each crate took of the processors, those of earlier builds too."""
+        path = os.path.join(LIBRARIES, "seconds")
+        took = {**measured_seconds(path), **self.took}
+        with open(path, "w") as file:
+            file.writelines("%s %.0f\n" % (it.name, took[it.name]) for it in self.crates if it.name in took)
 
     def interrupt(self, number, _):
         """Notes a signal. It ends the build where all that was begun is known, so that nothing is left behind."""
@@ -216,6 +266,7 @@ class Build:
                 self.begin()
                 self.tell()
                 time.sleep(0.1 if self.running else 0)
+            self.note()
             return True
         finally:
             self.stop()

@@ -4,9 +4,9 @@ program=$top/crates/dcr/out/dcr
 # the program. Neither a clock nor a copy can mislead these.
 record=$program.built
 
-# A checksum of the files that the program is built from.
+# A checksum of the files that the program is built from, but for what an editor leaves beside them.
 sources() (
-    cd -- "$top" && find crates crates.txt -name out -prune -o -name must-fail -prune -o -type f -print0 |
+    cd -- "$top" && find crates crates.txt -name out -prune -o -type f \( -name '*.rt' -o -name '*.antt' -o -name crates.txt \) -print0 |
         LC_ALL=C sort -z | xargs -0 sha256sum | sha256sum
 )
 

@@ -72,7 +72,7 @@ class Checkout:
         self.write("examples/first.report", "first run\na case")
         shutil.copy(TOP + "/dcr", self.top + "/dcr")
         os.mkdir(self.top + "/tools")
-        for tool in ("built.sh", "build.py"):
+        for tool in ("built.sh", "build.py", "seconds"):
             shutil.copy("%s/tools/%s" % (TOP, tool), "%s/tools/%s" % (self.top, tool))
         os.makedirs(self.bin)
         for name, text in KIT.items():
@@ -161,7 +161,7 @@ def check_on_a_terminal_one_line_is_written_anew():
     said = os.read(ours, 65536)
     os.close(ours)
     want_ran((ran.returncode, ran.stdout, said))
-    want(b"\rdcr: proved and compiled" in said and said.count(b"\n") == 2 and said.endswith(b"\n"), str(said))
+    want(b"\rdcr: proved and compiled" in said and said.count(b"\n") == 3 and said.endswith(b"\n"), str(said))
 
 
 def check_words_input_and_status_are_handed_on():
@@ -224,9 +224,26 @@ def check_the_old_program_stays_and_is_not_run():
 def check_a_missing_kit_is_told():
     with checkout() as it:
         status, wrote, said = it.dcr("run", PATH="/usr/bin:/bin")
-        want((status, wrote) == (NO_KIT, b"") and b"rt" in said and b"PATH" in said and said.count(b"\n") == 1, str((status, wrote, said)))
+        want((status, wrote) == (NO_KIT, b"") and b"rt, the command" in said and b"PATH" in said and said.count(b"\n") == 1, str((status, wrote, said)))
+        want(not shutil.which("python3", path="/usr/bin:/bin") or b"python3" not in said, "it says that what is there is missing: %s" % said)
+        # All that stands there but Python.
+        others = os.path.join(os.path.dirname(it.top), "others")
+        os.mkdir(others)
+        for name in {*os.listdir("/usr/bin"), *os.listdir("/bin")}:
+            if not name.startswith("python"):
+                os.symlink(shutil.which(name, path="/usr/bin:/bin") or "/usr/bin/" + name, os.path.join(others, name))
+        status, wrote, said = it.dcr("run", PATH=it.bin + ":" + others)
+        want((status, wrote) == (NO_KIT, b"") and b"PATH: python3\n" in said, str((status, wrote, said)))
         it.dcr("run")
         want_ran(it.dcr("run", PATH="/usr/bin:/bin"))
+
+
+def check_what_an_editor_leaves_builds_nothing():
+    with checkout() as it:
+        it.dcr("run")
+        for name in ("main.rt~", ".main.rt.swp", "#main.rt#"):
+            it.write("crates/dcr/src/" + name, "half")
+        want(it.proved(lambda: want_ran(it.dcr("run"))) == [], "it builds anew")
 
 
 def check_a_checkout_that_can_t_be_written():
