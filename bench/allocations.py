@@ -35,6 +35,7 @@ import tempfile
 
 sys.dont_write_bytecode = True
 sys.path.insert(0, os.path.dirname(os.path.abspath(__file__)))
+import second  # noqa: E402, F401
 import linked  # noqa: E402
 import reader  # noqa: E402
 import stored  # noqa: E402

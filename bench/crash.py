@@ -5,7 +5,7 @@
 
 The case has four sessions, each of calls at two sites of its own, and is run by 1, 2 or 4 workers. Each run is killed (signal 9)
 at a random moment, one of four before it comes to an execution and the others behind that. The tape is then read here, by the rules of docs/FORMATS.md: it must have all executions that were on it at
-the kill before, and behind them only such as come next in their session, each legal by the rules of the whole graph (bench/model.py).
+the kill before, and behind them only such as come next in their session, each legal by the rules of the whole graph (tools/model.py).
 The next run makes the calls that are left, on the same tape, and the last one makes them all. The status is 1 at the first tape
 that is none or has other executions.
 
@@ -24,6 +24,7 @@ import time
 
 sys.dont_write_bytecode = True
 sys.path.insert(0, os.path.dirname(os.path.abspath(__file__)))
+import second  # noqa: E402, F401
 import replay  # noqa: E402
 from model import PROGRAM, Case  # noqa: E402
 

@@ -32,6 +32,7 @@ import time
 
 sys.dont_write_bytecode = True
 sys.path.insert(0, os.path.dirname(os.path.abspath(__file__)))
+import second  # noqa: E402, F401
 import inputs  # noqa: E402
 import linked  # noqa: E402
 import outside  # noqa: E402

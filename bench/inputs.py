@@ -2,6 +2,7 @@
 
 import json
 
+import second  # noqa: F401
 import mutate
 import reader
 import replay

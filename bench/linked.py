@@ -10,6 +10,7 @@ It reads the table of docs/FORMATS.md, *Lines over a link*; the case is read by 
 import sys
 
 sys.dont_write_bytecode = True
+import second  # noqa: E402, F401
 from reader import Refused, is_call, read_case  # noqa: E402
 
 MOST_ENTRIES = MOST_LINES = 200_000

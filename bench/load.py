@@ -14,6 +14,7 @@ import subprocess
 import sys
 import time
 
+import second  # noqa: F401
 from model import PROGRAM, Case
 
 LOAD = [PROGRAM[0], "load"]

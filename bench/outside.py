@@ -13,6 +13,7 @@ import signal
 import subprocess
 import tempfile
 
+import second  # noqa: F401
 import inputs
 import mutate
 import reader

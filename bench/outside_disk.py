@@ -8,6 +8,7 @@ import subprocess
 import sys
 import tempfile
 
+import second  # noqa: F401
 import reader
 import stored
 from model import Case

@@ -8,6 +8,7 @@ import subprocess
 import tempfile
 import time
 
+import second  # noqa: F401
 import inputs
 import linked
 import reader

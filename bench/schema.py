@@ -18,6 +18,7 @@ import random
 import re
 import sys
 
+import second  # noqa: F401
 from model import TOP, random_case
 
 SCHEMA = os.path.join(TOP, "docs/case.schema.json")

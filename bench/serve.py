@@ -32,6 +32,7 @@ import time
 
 sys.dont_write_bytecode = True
 sys.path.insert(0, os.path.dirname(os.path.abspath(__file__)))
+import second  # noqa: E402, F401
 from bench import PROGRAM  # noqa: E402
 from crash import read_tape  # noqa: E402
 from model import Case  # noqa: E402

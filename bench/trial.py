@@ -13,6 +13,7 @@ import tempfile
 import threading
 import time
 
+import second  # noqa: F401
 from model import PROGRAM
 
 DCR = os.environ.get("DCR", PROGRAM[0])

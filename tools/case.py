@@ -15,6 +15,8 @@ MEMBERS = {
     "event": ["name", "parent", "label", "executed", "pending", "included"],
     "site": ["site", "events"],
 }
+# The member by which editors find the schema, which is passed over rightly.
+OF_EDITORS = "$schema"
 SPACE = re.compile(r"[ \t\n\r]*")
 NUMBER = re.compile(r"-?(0|[1-9][0-9]*)(\.[0-9]+)?([eE][+-]?[0-9]+)?")
 TEXT = re.compile(r'"((?:[^"\\\x00-\x1f]|\\(?:["\\/bfnrt]|u[0-9a-fA-F]{4}))*)"')
@@ -22,12 +24,29 @@ WORDS = {"true": True, "false": False, "null": None}
 DEEPEST = 127
 
 
-class NotJson(Exception):
-    """That the text is no JSON: where, and why."""
+# What is often written in a JSON text and isn't JSON: how it begins, what it is, and how to mend it.
+OFTEN = [
+    ("//", "a comment, which JSON has none of", "take it out; a member of any other name, such as \"note\", is passed over"),
+    ("/*", "a comment, which JSON has none of", "take it out; a member of any other name, such as \"note\", is passed over"),
+    ("#", "a comment, which JSON has none of", "take it out; a member of any other name, such as \"note\", is passed over"),
+    ("'", "a text in single quotes", "write double quotes"),
+    ("\u201c", "a text in quotes of an editor for prose", "write plain double quotes"),
+    ("True", "no word of JSON", "write true"),
+    ("False", "no word of JSON", "write false"),
+    ("None", "no word of JSON", "write null, or take the member out"),
+]
+COMMA = (",", "a comma too many: no value stands before it", "take it out")
 
-    def __init__(self, at, why):
+
+LOOK = "look here and at what stands before it: a comma or a bracket too many or missing, a text without its quote"
+
+
+class NotJson(Exception):
+    """That the text is no JSON: where, why, how to mend it, and which array or object was read there."""
+
+    def __init__(self, at, why, mend=LOOK):
         super().__init__(why)
-        self.at = at
+        self.at, self.mend, self.opened = at, mend, None
 
 
 class Value:
@@ -46,7 +65,23 @@ class Value:
 
 class _Reader:
     def __init__(self, text):
-        self.text, self.at = text, 0
+        self.text, self.at, self.opened = text, 0, []
+
+    def fail(self, why, mend=None, others=()):
+        """Fails here: as what often stands where JSON has none, as the end of the file, or for this reason."""
+        for head, what, how in [*OFTEN, *others]:
+            if self.text.startswith(head, self.at):
+                raise NotJson(self.at, what, how)
+        if self.at == len(self.text):
+            raise NotJson(self.at, "the file ends here, in the middle of a value", "close what is open, or look whether the file was cut")
+        raise NotJson(self.at, why, mend) if mend else NotJson(self.at, why)
+
+    def comma(self, end):
+        """Takes the comma between two values, behind which another one must come."""
+        at = self.at
+        self.take(",", "a comma or %s is wanted here" % end)
+        if self.skip() == end:
+            raise NotJson(at, "a comma too many: nothing stands behind it before the %s" % end, "take the comma out")
 
     def skip(self):
         self.at = SPACE.match(self.text, self.at).end()
@@ -54,7 +89,7 @@ class _Reader:
 
     def take(self, mark, why):
         if self.skip() != mark:
-            raise NotJson(self.at, why)
+            self.fail(why)
         self.at += 1
 
     def string(self):
@@ -71,20 +106,22 @@ class _Reader:
     def value(self, depth=0):
         mark, made = self.skip(), Value(self.at)
         if depth > DEEPEST:
-            raise NotJson(self.at, "arrays and objects nested too deep")
+            raise NotJson(self.at, "arrays and objects nested too deep", "nest less deep than %d" % DEEPEST)
         if mark in ("{", "["):
+            self.opened.append(self.at)
             self.at += 1
             (self.object if mark == "{" else self.array)(made, depth + 1)
+            self.opened.pop()
         elif mark == '"':
             made.value = self.string()
         else:
             word = re.compile(r"[a-zA-Z]*").match(self.text, self.at)[0]
             number = NUMBER.match(self.text, self.at)
             if word not in WORDS and not number:
-                raise NotJson(self.at, "a value is missing here" if mark else "the file ends in the middle of a value")
+                self.fail("no value of JSON stands here", "write a text in quotes, a number, true, false, null, an array or an object" if word else None, [COMMA])
             made.value = WORDS[word] if word else float(number[0])
             if made.value in (float("inf"), -float("inf")):
-                raise NotJson(self.at, "a number out of range")
+                raise NotJson(self.at, "a number out of range", "write one below 1.8e308; no member of a case is a number")
             self.at += len(word or number[0])
         made.end = self.at
         return made
@@ -99,7 +136,7 @@ class _Reader:
             if self.skip() == "]":
                 self.at += 1
                 return
-            self.take(",", "a comma or ] is wanted here")
+            self.comma("]")
 
     def object(self, made, depth):
         made.value = {}
@@ -108,7 +145,7 @@ class _Reader:
             return
         while True:
             if self.skip() != '"':
-                raise NotJson(self.at, "a member's name in quotes is wanted here; behind the last member there is no comma")
+                self.fail("a member's name in quotes is wanted here", "write the name in double quotes", [COMMA])
             at, key = self.at, self.string()
             self.take(":", "a colon is wanted here")
             made.members.append((key, at, self.value(depth)))
@@ -116,7 +153,7 @@ class _Reader:
                 self.at += 1
                 made.value = {name: it.value for name, _, it in made.members}
                 return
-            self.take(",", "a comma or } is wanted here")
+            self.comma("}")
 
 
 def parse(data):
@@ -124,19 +161,27 @@ def parse(data):
     try:
         text = data.decode("utf-8")
     except UnicodeDecodeError as error:
-        raise NotJson(len(data[: error.start].decode()), "a byte that is not UTF-8") from None
-    reader = _Reader(text)
+        raise NotJson(len(data[: error.start].decode()), "a byte that is not UTF-8", "have the editor save the file as UTF-8") from None
     if text.startswith("\ufeff"):
-        raise NotJson(0, "a byte order mark, which some editors write at the head of a file")
-    value = reader.value()
+        raise NotJson(0, "a byte order mark, which some editors write at the head of a file", "have the editor save the file as UTF-8 without it")
+    reader = _Reader(text)
+    if not reader.skip():
+        raise NotJson(0, "the file is empty" if not text else "the file has spaces and line ends alone", "write the case, or look whether it was saved")
+    try:
+        value = reader.value()
+    except NotJson as error:
+        if reader.opened and (error.mend == LOOK or error.at == len(text)):
+            error.opened = reader.opened[-1]
+        raise
     if reader.skip():
-        raise NotJson(reader.at, "something stands behind the end of the value")
+        raise NotJson(reader.at, "something stands behind the end of the value", "take it out: a file holds one object; or an earlier { or [ is closed too soon")
     return value, text
 
 
 def place(text, at):
-    """The line and the column, counted from 1, of a place in the text."""
-    return text.count("\n", 0, at) + 1, at - text.rfind("\n", 0, at)
+    """The line and the column, counted from 1, of a place in the text, whichever line ends it has."""
+    lines = re.split("\r\n|\r|\n", text[:at])
+    return len(lines), len(lines[-1]) + 1
 
 
 class File:
@@ -185,6 +230,8 @@ class File:
         for kind, it in self.objects():
             keys = [key for key, _, _ in it.members]
             for at, (key, where, _) in enumerate(it.members):
+                if kind == "top" and key == OF_EDITORS:
+                    continue
                 if key not in MEMBERS[kind]:
                     yield kind, key, where, False
                 elif key in keys[at + 1 :]:

@@ -1,15 +1,18 @@
 #!/usr/bin/env python3
 """Draws a case, and the run that a report tells.
 
-    tools/draw.py case CASE > case.svg      by Graphviz where `dot` is on the path, else by a layout of its own
-    tools/draw.py own CASE > case.svg       by the layout of its own
-    tools/draw.py dot CASE > case.dot       as Graphviz text
-    tools/draw.py run REPORT > run.svg      the calls down the page, the sites across, what each execution changed
+    tools/draw.py case CASE > case.svg           by Graphviz where `dot` is on the path, else by a layout of its own
+    tools/draw.py own CASE > case.svg            by the layout of its own
+    tools/draw.py dot CASE > case.dot            as Graphviz text
+    tools/draw.py run REPORT > run.svg           the calls down the page, the sites across, what each execution changed
+    tools/draw.py page CASE REPORT > run.html    one page for a browser: the graph beside the run, call by call
 
 The relations are drawn as the field draws them: condition with a dot at the arrow's head, response with one at its
 tail, include +, exclude %, milestone with a diamond, cancel with a cross. An event that is excluded at opening has a
 dashed border; one that is pending has a !, one that is executed a check mark. The sites that own an event stand at its
-head in their colours. A case must be one that dcr accepts, and a report one that it finds valid.
+head in their colours. The page needs no network; a slider or the arrow keys go over the calls, and show at each place the
+marks, each site's own, what may be executed there, and what an execution changed. A case must be one that dcr accepts,
+and a report one that it finds valid. The status is 0, or 2 where the words are others or a file is missing or not such.
 """
 
 import html
@@ -21,10 +24,10 @@ import subprocess
 import sys
 
 import layout
-from case import TOP
-
-sys.path.insert(0, os.path.join(TOP, "bench"))
-from model import Case  # noqa: E402
+import replay
+from command import Usage, Wrong, command, read_bytes, read_text
+from model import Case
+from reader import Refused, read_case
 
 # The colours that DCR tools give the relations, and the sign of each.
 KINDS = {
@@ -60,8 +63,13 @@ def marks_of(case, atom):
 class Picture:
     """The parts of an SVG picture, and how far they reach."""
 
-    def __init__(self):
-        self.parts, self.least, self.most = [], [0.0, 0.0], [0.0, 0.0]
+    def __init__(self, has_groups=False):
+        self.parts, self.least, self.most, self.has_groups = [], [0.0, 0.0], [0.0, 0.0], has_groups
+
+    def group(self, name):
+        """Begins the parts of an event, which a page finds by its name; ends them where there is none."""
+        if self.has_groups:
+            self.parts.append('<g class="event" data-event="%s">' % escaped(name) if name else "</g>")
 
     def reach(self, *points):
         for point in points:
@@ -135,6 +143,7 @@ def draw_box(picture, case, box, events):
             draw_box(picture, case, it, events)
         return
     own, dashed = owners(case, box.name), box.name not in case.included
+    picture.group(box.name)
     picture.box(box.x, box.y, box.width, box.height, dashed=dashed)
     wide = (box.width - 2) / len(own)
     for k, site in enumerate(own):
@@ -145,6 +154,7 @@ def draw_box(picture, case, box, events):
     if events[box.name].get("label", box.name) != box.name:
         picture.text(box.x + 7, box.y + box.height - 5, box.name, 9, "start", "#888888")
     picture.text(box.x + box.width - 7, box.y + box.height - 5, marks_of(case, box.name), 13, "end", "#1f78b4", "bold")
+    picture.group(None)
 
 
 def draw_legend(picture, case, y):
@@ -159,18 +169,18 @@ def draw_legend(picture, case, y):
         picture.box(x, y - 9, 14, 14, colour_of(case, site), corner=3)
         picture.text(x + 20, y + 2, site, 11, "start")
         x += 44 + 6.8 * len(site)
-    if any(atom not in case.included for atom in case.atoms):
+    if not picture.has_groups and any(atom not in case.included for atom in case.atoms):
         picture.box(x, y - 9, 22, 14, dashed=True, corner=3)
         picture.text(x + 28, y + 2, "excluded at opening", 11, "start")
 
 
-def draw_own(case):
+def draw_own(case, has_groups=False):
     """The picture of a case, by a layout of its own."""
     events = {event["name"]: event for event in case.events}
     tops, pairs = layout.boxes(case.events), [(a, b) for kind, a, b in case.written if kind != "exclude"]
     layout.settle(tops, pairs)
     everything = [it for top in tops for it in top.all()]
-    by_name, picture, taken = {it.name: it for it in everything}, Picture(), []
+    by_name, picture, taken = {it.name: it for it in everything}, Picture(has_groups), []
     for top in tops:
         draw_box(picture, case, top, events)
     for kind, a, b in sorted({tuple(it) for it in case.written}, key=lambda it: [list(it) for it in case.written].index(list(it))):
@@ -184,24 +194,52 @@ def draw_own(case):
 # ---- Graphviz text
 
 
+SIGNS = {"condition": "→•", "response": "•→", "include": "→+", "exclude": "→%", "milestone": "→◆", "cancel": "•→×"}
+
+
+def dot_legend(case):
+    """The legend as Graphviz text: the kinds that there are with their signs, and the marks that an event may show."""
+    cells = ['<td><font color="%s">%s %s</font></td>' % (KINDS[kind][0], SIGNS[kind], kind) for kind in KINDS if any(it[0] == kind for it in case.written)]
+    cells += ["<td>%s</td>" % escaped(said) for said in ("✓ executed", "! pending", "dashed: excluded at opening")]
+    return '<<table border="0" cellspacing="10"><tr>%s</tr></table>>' % "".join(cells)
+
+
+def dot_atom(case, event):
+    """An atom as Graphviz text: its sites at its head, its label, its name where that is another text, and its marks."""
+    name, own = event["name"], owners(case, event["name"])
+    label = event.get("label", name)
+    heads = "".join('<td bgcolor="%s">%s</td>' % (colour_of(case, site), escaped(site)) for site in own)
+    rows = '<tr><td colspan="%d">%s %s</td></tr>' % (len(own), escaped(label), marks_of(case, name))
+    if label != name:
+        rows += '<tr><td colspan="%d"><font point-size="9" color="#888888">%s</font></td></tr>' % (len(own), escaped(name))
+    border = ' style="dashed"' if name not in case.included else ""
+    return '"%s" [label=<<table border="1" cellborder="0" cellspacing="0"%s><tr>%s</tr>%s</table>>];' % (name, border, heads, rows)
+
+
 def dot_of(case):
-    """The case as Graphviz text: a nest is a cluster, and an end of a relation that is a nest lies at one of its atoms."""
+    """The case as Graphviz text. A nest is a cluster, and an end of a relation that is a nest lies at one of its atoms;
+    where the other end is the nest too or in it, at a node that stands for all that is in the nest."""
     lines = ["digraph {", "compound=true; rankdir=LR; fontname=Helvetica; fontsize=12; node [shape=plaintext, fontname=Helvetica, fontsize=12]; edge [arrowsize=0.8, fontname=Helvetica];"]
+    lines.append("labelloc=b; label=%s;" % dot_legend(case))
     parents = {event.get("parent") for event in case.events}
+    whole = {end for _, a, b in case.written for end, other in ((a, b), (b, a)) if end in parents and end in case.line_of(other)}
+
+    def quoted(text):
+        return '"%s"' % text.replace("\\", "\\\\").replace('"', '\\"').replace("\n", "\\n")
 
     def add(event):
-        name, label = event["name"], escaped(event.get("label", event["name"]))
-        if name in parents:
-            lines.append('subgraph "cluster_%s" { label="%s"; style=rounded; color="#888888";' % (name, event.get("label", name).replace("\\", "\\\\").replace('"', '\\"')))
-            for child in case.events:
-                if child.get("parent") == name:
-                    add(child)
-            lines.append("}")
+        name = event["name"]
+        if name not in parents:
+            lines.append(dot_atom(case, event))
             return
-        heads = "".join('<td bgcolor="%s">%s</td>' % (colour_of(case, site), escaped(site)) for site in owners(case, name))
-        border = ' style="dashed"' if name not in case.included else ""
-        cells = len(owners(case, name))
-        lines.append('"%s" [label=<<table border="1" cellborder="0" cellspacing="0"%s><tr>%s</tr><tr><td colspan="%d">%s %s</td></tr></table>>];' % (name, border, heads, cells, label, marks_of(case, name)))
+        label = event.get("label", name)
+        lines.append('subgraph "cluster_%s" { label=%s; labelloc=t; style=rounded; color="#888888";' % (name, quoted(label if label == name else "%s (%s)" % (label, name))))
+        if name in whole:
+            lines.append('"@%s" [shape=box, style="rounded,dashed", color="#888888", fontcolor="#666666", label=%s];' % (name, quoted("all of " + name)))
+        for child in case.events:
+            if child.get("parent") == name:
+                add(child)
+        lines.append("}")
 
     for event in case.events:
         if event.get("parent") is None:
@@ -212,9 +250,12 @@ def dot_of(case):
         more += ["label=%s" % json.dumps(sign, ensure_ascii=False)] if sign else []
         more += ["arrowhead=dotnormal"] if kind == "condition" else []
         more += ["dir=both arrowtail=dot"] if kind in ("response", "cancel") else []
-        more += ['ltail="cluster_%s"' % a] if a in parents else []
-        more += ['lhead="cluster_%s"' % b] if b in parents else []
-        lines.append('"%s" -> "%s" [%s];' % (case.below(a)[0], case.below(b)[0], " ".join(more)))
+        ends = []
+        for end, other, word in ((a, b, "ltail"), (b, a, "lhead")):
+            is_whole = end in parents and end in case.line_of(other)
+            ends.append("@" + end if is_whole else case.below(end)[0])
+            more += ['%s="cluster_%s"' % (word, end)] if end in parents and not is_whole else []
+        lines.append('"%s" -> "%s" [%s];' % (*ends, " ".join(more)))
     return "\n".join([*lines, "}"]) + "\n"
 
 
@@ -254,8 +295,18 @@ class Run:
         return "; ".join(found)
 
 
-def shortened(text, most=110):
+def shortened(text, most):
     return text if len(text) <= most else text[: most - 1] + "…"
+
+
+def in_lines(text, most=110):
+    """The text in lines of about so many characters, broken behind commas and between words."""
+    lines = [""]
+    for piece in text.replace(",", ",\0").replace(" ", " \0").split("\0"):
+        if lines[-1] and len(lines[-1]) + len(piece) > most:
+            lines.append("")
+        lines[-1] += piece
+    return [it.rstrip() for it in lines]
 
 
 def draw_run(report):
@@ -286,31 +337,121 @@ def draw_run(report):
             picture.box(x, y, 150, 20, "#fdecec" if is_refused else "#e6f4e6" if is_done else "#f4f4f4", "#d62728" if is_refused else "#2a9134" if is_done else "#bbbbbb")
             picture.text(x + 75, y + 14, shortened(" ".join([*call[:1], *call[2:]]), 22), 11)
             answer = ("refused: " if is_refused else "") + answer
-        picture.text(right, y + 14, shortened(answer), 11, "start", "#d62728" if answer.startswith("refused") else "#222222")
-        y += 27
+        told = in_lines(answer)
+        for k, line in enumerate(told):
+            picture.text(right + (12 if k else 0), y + 14 + 15 * k, line, 11, "start", "#d62728" if answer.startswith("refused") else "#222222")
+        y += 27 + 15 * (len(told) - 1)
     lines = ['<line x1="%.1f" y1="24" x2="%.1f" y2="%.1f" stroke="#cccccc"/>' % (x + 75, x + 75, y) for x in column.values()]
     picture.parts[lifelines:lifelines] = lines
     picture.text(40, y + 16, run.verdict, 12, "start", weight="bold")
     return picture.svg()
 
 
+# ---- the page
+
+
+MOST_CALLS = 20_000
+
+
+class Enabled:
+    """Which atoms may be executed, kept from call to call."""
+
+    def __init__(self, case):
+        self.case = case
+        self.guards = {atom: set() for atom in case.atoms}
+        for kind in ("condition", "milestone"):
+            for a, b in case.pairs[kind]:
+                self.guards[a].add(b)
+        self.sources = {kind: {} for kind in ("condition", "milestone")}
+        for kind, found in self.sources.items():
+            for a, b in case.pairs[kind]:
+                found.setdefault(b, []).append(a)
+        self.now = {atom for atom in case.atoms if self.may(atom)}
+
+    def may(self, atom):
+        case = self.case
+        waits = any(it in case.included and it not in case.executed for it in self.sources["condition"].get(atom, ()))
+        return atom in case.included and not waits and not any(it in case.included and it in case.pending for it in self.sources["milestone"].get(atom, ()))
+
+    def changed(self, atoms):
+        """The atoms that may be executed now and could not before, and the other way round, after these changed."""
+        asked = set().union(atoms, *[self.guards[it] for it in atoms])
+        found = {it for it in asked if self.may(it) != (it in self.now)}
+        self.now = self.now ^ found
+        return found
+
+
+def page_data(run):
+    """What a page knows of a run: the marks at opening, and of each call what it changed."""
+    case = run.case
+
+    def listed(atoms):
+        return sorted(atoms, key=case.number.get)
+
+    sites = []
+    for name, owned in case.sites:
+        conditions, milestones = case.sources("condition", owned), case.sources("milestone", owned)
+        tracked = {"executed": owned | conditions, "pending": owned | milestones, "included": owned | conditions | milestones}
+        sites.append({"name": name, "colour": colour_of(case, name), "owned": listed(owned), "tracked": {mark: listed(it) for mark, it in tracked.items()}})
+    labels = {event["name"]: event["label"] for event in case.events if event.get("label", event["name"]) != event["name"]}
+    enabled = Enabled(case)
+    data = {"atoms": case.atoms, "labels": labels, "sites": sites, "verdict": run.verdict}
+    data["open"] = {"executed": listed(case.executed), "pending": listed(case.pending), "included": listed(case.included), "enabled": listed(enabled.now)}
+    data["calls"], before = [], (case.executed, case.pending, case.included)
+    for session, call, outcome, changes in run.entries():
+        after = (case.executed, case.pending, case.included)
+        flips = {name: listed(old ^ new) for name, old, new in zip(("executed", "pending", "included"), before, after)}
+        flips["enabled"] = listed(enabled.changed({it for own in flips.values() for it in own}))
+        data["calls"].append({"session": session, "call": " ".join(call), "outcome": outcome, "changes": changes, "flips": {name: it for name, it in flips.items() if it}})
+        before = after
+    return data
+
+
+def draw_page(case_text, report, name):
+    """One page of HTML that needs nothing beside itself."""
+    run, case = Run(report), read_case(case_text)
+    if list(case.head())[1:3] != report.split("\n")[1:3]:
+        raise Wrong("%s: it is the report of another case: its lines `graph` and `cover` are not those of the case" % name)
+    if len(run.lines) > MOST_CALLS:
+        raise Wrong("%s: it has %d calls, and a page takes %d" % (name, len(run.lines), MOST_CALLS))
+    graph = draw_own(run.case, has_groups=True)
+    data = json.dumps(page_data(run), ensure_ascii=False, separators=(",", ":")).replace("<", "\\u003c")
+    with open(os.path.join(os.path.dirname(os.path.realpath(__file__)), "page.html"), encoding="utf-8") as file:
+        page = file.read()
+    for mark, text in (("GRAPH", graph), ("DATA", data), ("NAME", escaped(os.path.basename(name)))):
+        page = page.replace("<!--%s-->" % mark, text)
+    return page
+
+
+def want_valid(report, name):
+    status, line = replay.verdict(report)
+    if status:
+        raise Wrong("%s: %s: tools/explain.py tells what is wrong" % (name, line.strip()))
+
+
+def drawn(way, names):
+    if way in ("run", "page"):
+        want_valid(read_bytes(names[-1]), names[-1])
+        report = read_text(names[-1])
+        return draw_run(report) if way == "run" else draw_page(read_bytes(names[0]), report, names[-1])
+    case = read_case(read_bytes(names[0]))
+    if way == "own" or way == "case" and not shutil.which("dot"):
+        return draw_own(case)
+    if way == "dot":
+        return dot_of(case)
+    return subprocess.run(["dot", "-Tsvg"], input=dot_of(case).encode(), stdout=subprocess.PIPE, stderr=subprocess.DEVNULL, check=True).stdout.decode()
+
+
+@command(__doc__)
 def main(words):
-    if len(words) != 2 or words[0] not in ("case", "own", "dot", "run"):
-        sys.exit(__doc__)
-    with open(words[1], encoding="utf-8") as file:
-        text = file.read()
+    if words[:1] not in (["case"], ["own"], ["dot"], ["run"], ["page"]) or len(words) != (3 if words[0] == "page" else 2):
+        raise Usage
     try:
-        if words[0] == "run":
-            drawn = draw_run(text)
-        else:
-            case = Case(text)
-            drawn = draw_own(case) if words[0] == "own" or words[0] == "case" and not shutil.which("dot") else dot_of(case)
-            if words[0] == "case" and shutil.which("dot"):
-                drawn = subprocess.run(["dot", "-Tsvg"], input=drawn.encode(), stdout=subprocess.PIPE, stderr=subprocess.DEVNULL, check=True).stdout.decode()
-    except (KeyError, ValueError, TypeError, AttributeError, IndexError, StopIteration):
-        sys.exit("%s: dcr would refuse this: run it first, and tools/explain.py tells what is wrong" % words[1])
-    sys.stdout.write(drawn)
+        print(drawn(words[0], words[1:]), end="")
+    except Refused as refusal:
+        raise Wrong("%s: dcr would refuse this: %s: tools/explain.py tells what is wrong" % (words[1], refusal)) from None
+    return 0
 
 
 if __name__ == "__main__":
-    main(sys.argv[1:])
+    sys.exit(main(sys.argv[1:]))

@@ -1,21 +1,37 @@
 #!/usr/bin/env python3
 """Says where in a file it is that `dcr` tells of, what the rule is, and how to mend it.
 
-    tools/explain.py CASE                        the members of a case file that dcr passes over
+    tools/explain.py CASE                        whether dcr takes the file; the members that it passes over, what is odd
     tools/explain.py CASE refused 6 parent 0     the place that this line tells of
     ./dcr run < CASE | tools/explain.py CASE -   the same, the line read from standard input
     tools/explain.py REPORT invalid 6 outcome    the line of a report that `replay` tells of
     tools/explain.py CASE tape other-case        why `dcr.tape` in the current folder is refused
 
-Each place is FILE:LINE:COLUMN, counted from 1, with the text that stands there. The status is 0 where nothing is wrong,
-and 1 where a place is told.
+Each place is FILE:LINE:COLUMN, counted from 1, with the text that stands there. Of a file alone it finds out by itself
+why dcr would refuse it, by the plain reader (reader.py). Of one that dcr takes it tells what is legal and hardly meant:
+members that are passed over, events that can never be executed, sessions without calls; and as remarks what is odd only
+where it isn't meant, such as an event of several sites. The status is 0 where nothing but remarks is told, 1 where a
+place is, and 2 where the words are others, the file is missing, or it isn't the one that the line tells of.
 """
 
 import difflib
 import sys
 
+import odd
+import reader
+import replay
 from case import KINDS, MEMBERS, NAME, File, NotJson, parse, place
+from command import Usage, Wrong, command, read_bytes
 
+# What other tools and papers call a kind of relation.
+OF_THE_FIELD = {
+    "cancel": ["noresponse", "no-response", "coresponse", "co-response", "cancelresponse", "unresponse"],
+    "condition": ["precondition", "pre-condition", "conditionsfor", "requires"],
+    "response": ["responseto", "obligation", "postcondition"],
+    "milestone": ["milestonesfor"],
+    "include": ["includesto", "inclusion", "dynamicinclusion"],
+    "exclude": ["excludesto", "exclusion", "dynamicexclusion"],
+}
 OF_TYPE = {"name": (str, "a text"), "parent": (str, "a text"), "label": (str, "a text")}
 OF_TYPE.update({it: (bool, "true or false") for it in ("executed", "pending", "included")})
 
@@ -28,28 +44,44 @@ class Told:
 
 
 def near(word, words):
-    """A hint at the word that was probably meant."""
-    found = difflib.get_close_matches(word, [it for it in words if isinstance(it, str)], 1, 0.6) if isinstance(word, str) else []
-    return "; did you mean `%s`?" % found[0] if found else ""
+    """A hint at the word that was probably meant; capitals count for nothing in it."""
+    if not isinstance(word, str):
+        return ""
+    every = {it.lower(): it for it in words if isinstance(it, str)}
+    found = difflib.get_close_matches(word.lower(), every, 1, 0.6)
+    return "; did you mean `%s`?" % every[found[0]] if found else ""
+
+
+def misspelt(member, value):
+    """A hint at the member that stands in the place of a missing one."""
+    found = difflib.get_close_matches(member, [key for key, _, _ in value.members], 1, 0.6)
+    return "; is `%s` meant to be it?" % found[0] if found else ""
+
+
+def type_of(value):
+    """What a JSON value is, in words."""
+    kinds = [(bool, "true or false"), (str, "a text"), (float, "a number"), (list, "an array"), (dict, "an object")]
+    return next((said for kind, said in kinds if value.is_a(kind)), "null")
 
 
 def of_top(file, number):
     version = file.top.get("version")
     if not file.top.is_a(dict):
         return Told(file.top, "this is no object", "A case file is one JSON object.", "write { and } around its members")
-    return Told(version, "this is no version", 'The version is the text "1" or "2".', 'write "2" with quotes, or "1"')
+    wrong = "this is no version" if version.is_a(str) else "this is %s" % type_of(version)
+    return Told(version, wrong, 'The version is the text "1" or "2".', 'write "2" with quotes where there is a cancel, and else "1"')
 
 
 def of_graph(file, number):
     graph = file.top.get("graph")
     if graph is None:
-        hint = near("graph", [key for key, _, _ in file.top.members])
+        hint = misspelt("graph", file.top)
         return Told(file.top, "this object has no `graph`" + hint, "A case has a `graph`.", "write the graph")
     if not graph.is_a(dict):
         return Told(graph, "this is no object", "The graph is an object with `events`, and perhaps `relations`.", "write { and } around them")
     events, relations = graph.get("events"), graph.get("relations")
     if events is None:
-        hint = near("events", [key for key, _, _ in graph.members])
+        hint = misspelt("events", graph)
         return Told(graph, "this object has no `events`" + hint, "A graph has an array `events`.", "write the events")
     wrong = relations if events.is_a(list) else events
     return Told(wrong, "this is no array", "`events` and `relations` are arrays.", "write [ and ] around them")
@@ -60,31 +92,40 @@ def of_event(file, number):
     if not event.is_a(dict):
         return Told(event, "this is no object", "An event is an object with a text `name`.", 'write {"name": ..}')
     if event.get("name") is None:
-        hint = near("name", [key for key, _, _ in event.members])
+        hint = misspelt("name", event)
         return Told(event, "this event has no `name`" + hint, "An event has a text `name`.", "give it a name")
     for member, (kind, said) in OF_TYPE.items():
         value = event.get(member)
         if value is not None and not value.is_a(kind):
-            return Told(value, "`%s` is another thing here" % member, "`%s` is %s." % (member, said), "write %s; a member with null is there too, so take it out" % said)
+            mend = "take it out: a member with null is there too" if value.value is None else "write it in quotes" if kind is str else "write true or false, without quotes"
+            return Told(value, "`%s` is %s here" % (member, type_of(value)), "`%s` is %s." % (member, said), mend)
 
 
 def of_relation(file, number):
     relation = file.relations[number]
     rule = "A relation is an array of three texts, [KIND, FROM, TO]."
-    if not relation.is_a(list) or len(relation.items) != 3:
-        return Told(relation, "this is no array of three texts", rule, "write the kind and the two events")
+    if not relation.is_a(list):
+        return Told(relation, "this is %s" % type_of(relation), rule, 'write ["condition", "a", "b"], the kind first, then the event that it leads from, then the one that it leads to')
+    if len(relation.items) != 3:
+        return Told(relation, "this has %d texts" % len(relation.items), rule, "write the kind, and one event at each end; several relations are several arrays")
     other = next((it for it in relation.items if not it.is_a(str)), None)
     if other:
         return Told(other, "this is no text", rule, "write the name in quotes")
     kind = relation.items[0]
     if kind.value == "cancel":
         return Told(kind, "cancel is no kind of version 1", 'Cancel needs version "2".', 'write "version":"2" at the head of the file')
-    return Told(kind, "this is no kind" + near(kind.value, KINDS), "A kind is one of %s." % ", ".join(KINDS), "mend the word")
+    rule = "A kind is one of %s, in small letters." % ", ".join(KINDS)
+    meant = next((it for it in KINDS if kind.value.lower().rstrip("s") in (it, *OF_THE_FIELD[it])), None)
+    if meant == "cancel":
+        return Told(kind, "this is no kind: what the field calls `%s` is `cancel` here" % kind.value, rule, 'write "cancel", and "version":"2" at the head of the file')
+    if meant:
+        return Told(kind, "this is no kind; did you mean `%s`?" % meant, rule, 'write "%s"' % meant)
+    return Told(kind, "this is no kind" + near(kind.value, KINDS), rule, "mend the word")
 
 
 def of_cover(file, number):
     cover = file.top.get("cover")
-    hint = near("cover", [key for key, _, _ in file.top.members])
+    hint = misspelt("cover", file.top)
     if cover is None:
         return Told(file.top, "this object has no `cover`" + hint, "A case has an array `cover`.", "write which site owns which events")
     return Told(cover, "this is no array", "`cover` is an array.", "write [ and ] around the sites")
@@ -98,10 +139,10 @@ def of_site(file, number):
     for member, kind in [("site", str), ("events", list)]:
         value = site.get(member)
         if value is None:
-            hint = near(member, [key for key, _, _ in site.members])
-            return Told(site, "this site has no `%s`%s" % (member, hint), rule, "write it")
+            hint = misspelt(member, site)
+            return Told(site, "this site has no `%s`%s" % (member, hint), rule, "write it; a site that owns none has \"events\": []")
         if not value.is_a(kind):
-            return Told(value, "`%s` is another thing here" % member, rule, "mend its type")
+            return Told(value, "`%s` is %s here" % (member, type_of(value)), rule, "write it in quotes" if kind is str else "write [ and ] around the names, also around one alone, or none")
     return Told(next(it for it in site.get("events").items if not it.is_a(str)), "this is no text", rule, "write the event's name in quotes")
 
 
@@ -151,12 +192,20 @@ def event_name(file, number):
 
 def parent(file, number):
     number = int(number)
-    value, later = file.events[number].get("parent"), [it.get("name") for it in file.events[number:]]
-    there = [it for it in later if it.value == value.value]
-    wrong = "no event has this name" + near(value.value, file.names[:number])
-    if there:
-        wrong = "this event stands later" if there[0] is not later[0] else "this is the event itself"
-    return Told(value, wrong, "A parent is the name of an event that stands earlier.", "put the parent before its children, or mend the name", *[(it, "it stands here") for it in there[:1]])
+    value, name = file.events[number].get("parent"), file.names[number]
+    rule = "A parent is the name of an event that stands earlier."
+    if value.value == name:
+        return Told(value, "this is the event itself", rule, "take the member out, or name the nest that the event is in")
+    if value.value not in file.names:
+        return Told(value, "no event has this name" + near(value.value, [it for it in file.names if it != name]), rule, "mend the name, or add the event before this one")
+    # (the way up from here; where it comes back there is no order in which each parent stands first)
+    way = file.ways_up(name)
+    above = dict(zip(reversed(file.names), reversed(file.parents)))
+    if above.get(way[-1]) == name:
+        others = [(file.events[file.names.index(it)].get("parent"), "and the parent of `%s` is this" % it) for it in way[1:]]
+        return Told(value, "the parents go round in a circle: %s" % " in ".join("`%s`" % it for it in [*way, name]), rule, "take one of these members `parent` out", *others)
+    later = file.events[file.names.index(value.value)].get("name")
+    return Told(value, "this event stands later", rule, "put it before its children", (later, "it stands here"))
 
 
 def mark_on_nest(file, number):
@@ -210,6 +259,8 @@ def call_line(file, session, number):
         wrong += ": there are two spaces, or one before or after it"
     elif len(words) != forms[words[0]]:
         wrong += ": `%s` wants %d words behind it" % (words[0], forms[words[0]] - 1)
+    elif len(words) == 3 and words[1] in file.names and words[2] in file.sites:
+        return Told(value, "the words are turned round: `%s` is a site, and `%s` an event" % (words[2], words[1]), "A call is `exec SITE EVENT`.", "write `exec %s %s`" % (words[2], words[1]))
     elif words[1] not in file.sites:
         wrong = "no site has the name `%s`%s" % (words[1], near(words[1], file.sites))
     elif words[2] in file.nests:
@@ -240,24 +291,51 @@ TAPES = {
 }
 
 
-def tell(path, text, told):
-    def line_of(at, end):
-        shown = " ".join(text[at:end].split())
-        return "%s:%d:%d" % (path, *place(text, at)), shown if len(shown) <= 100 else shown[:97] + "..."
+def shown_at(path, text, value):
+    """FILE:LINE:COLUMN of a value, and the text that stands there."""
+    shown = " ".join(text[value.at : value.end].split())
+    return "%s:%d:%d" % (path, *place(text, value.at)), shown if len(shown) <= 100 else shown[:97] + "..."
 
-    where, shown = line_of(told.at, told.end)
-    print("%s: %s\n    %s" % (where, told.wrong, shown))
-    for value, why in told.others:
-        print("%s: %s\n    %s" % (line_of(value.at, value.end)[0], why, line_of(value.at, value.end)[1]))
+
+def tell(path, text, told):
+    for value, why in [(told, told.wrong), *told.others]:
+        print("%s: %s\n    %s" % (shown_at(path, text, value)[0], why, shown_at(path, text, value)[1]))
     print("  rule: %s\n  mend: %s" % (told.rule, told.mend))
 
 
+def tell_not_json(path, text, error):
+    print("%s:%d:%d: %s" % (path, *place(text, error.at), error))
+    shown = " ".join(text[error.at : error.at + 60].split())
+    if shown:
+        print("    %s" % shown)
+    if error.opened is not None:
+        print("%s:%d:%d: what is open there begins here\n    %s" % (path, *place(text, error.opened), " ".join(text[error.opened : error.opened + 60].split())))
+    print("  rule: A case file is JSON.\n  mend: %s" % error.mend)
+
+
+def changed_on_the_way(data):
+    """What happened to a report's bytes that no rule of the run explains."""
+    if data.startswith(b"\xef\xbb\xbf"):
+        return "a byte order mark stands at its head: it was saved by an editor; ask for the file as it was written"
+    if b"\r" in data:
+        return "its line ends were changed (there are CRs): ask for the file packed, or take the CRs out"
+    if data.lstrip()[:1] == b"{":
+        return "this looks like a case file, which is run and not replayed"
+    return None
+
+
 def tell_invalid(path, data, line, kind):
+    is_valid, number, found, wanted = replay.walked(data)
+    if is_valid or (number, found) != (line, kind):
+        told = "valid" if is_valid else "invalid %d %s" % (number, found)
+        raise Wrong("%s: the plain checker finds it %s: is it the file that dcr was given?" % (path, told))
     lines = data.split(b"\n")
     shown = lines[line - 1].decode(errors="replace") if line <= len(lines) else ""
     rule, look = EXPECTED[kind]
-    print("%s:%d:1: `%s` is wrong here\n    %s" % (path, line, kind, shown[:100] or "(there is no such line)"))
-    print("  rule: %s\n  look for: %s" % (rule, look))
+    print("%s:%d:1: `%s` is wrong here\n    %s" % (path, line, kind, shown[:100].rstrip("\r") or "(there is no such line)"))
+    if wanted is not None:
+        print("  %s: %s" % ("the graph answers" if kind == "outcome" else "wanted", wanted))
+    print("  rule: %s\n  look for: %s" % (rule, changed_on_the_way(data) or look))
 
 
 def tell_tape(kind, number="0"):
@@ -267,53 +345,83 @@ def tell_tape(kind, number="0"):
 
 
 def tell_passed_over(path, text, file):
+    """Tells the members that are passed over, and answers how many there are."""
     found = sorted(file.passed_over(), key=lambda it: it[2])
     for kind, key, at, is_twice in found:
         what = "an earlier `%s`, of which the last counts" % key if is_twice else "dcr passes over the member `%s`%s" % (key, near(key, MEMBERS[kind]))
         print("%s:%d:%d: %s" % (path, *place(text, at), what))
-    if not found:
-        print("%s: dcr passes over no member" % path)
-    return 1 if found else 0
+    return len(found)
 
 
-def explain(path, words):
-    with open(path, "rb") as file:
-        data = file.read()
-    if words[:1] == ["invalid"]:
-        tell_invalid(path, data, int(words[1]), words[2])
+def tell_odd(path, text, file):
+    """Tells what is odd in a file that dcr takes, and answers how many things are more than remarks."""
+    found = odd.oddities(file, text)
+    for it in found:
+        print("%s:%d:%d: %s%s" % (path, *place(text, it.at), "remark: " if it.is_remark else "", it.why))
+        for value, why in it.others:
+            print("  %s: %s %s" % (shown_at(path, text, value)[0], why, shown_at(path, text, value)[1]))
+        print("  mend: %s" % it.mend)
+    return sum(not it.is_remark for it in found)
+
+
+def explain_refusal(path, data, words):
+    """Tells the place of a refusal. Answers 1."""
+    if words[1] == "1":
+        print("%s: %d bytes\n  rule: A case has at most %d bytes, a report at most %d.\n  mend: split the case, or shorten its labels" % (path, len(data), reader.MOST_BYTES, replay.MOST_BYTES))
         return 1
-    if words[:1] == ["tape"]:
-        tell_tape(*words[1:])
-        return 1
-    if words[:2] == ["refused", "1"]:
-        print("%s: %d bytes; a case has at most 16777216, a report at most 268435456" % (path, len(data)))
-        return 1
-    if words and words[0] != "refused":
-        print("dcr found nothing to refuse: %s" % " ".join(words))
-        return 0
     try:
         top, text = parse(data)
     except NotJson as error:
-        text = data.decode(errors="replace")
-        print("%s:%d:%d: %s\n    %s" % (path, *place(text, error.at), error, " ".join(text[error.at : error.at + 60].split())))
-        print("  rule: A case file is JSON.\n  mend: look here and at what stands before it: a comma too many or missing, a comment, a text without its quote")
+        tell_not_json(path, data.decode(errors="replace"), error)
         return 1
-    if words and words[2:3] != ["not-json"]:
-        tell(path, text, REFUSALS[words[2]](File(top), *words[3:]))
-        return 1
-    return tell_passed_over(path, text, File(top))
+    if words[2] == "not-json":
+        raise Wrong("%s: it is JSON: is it the file that dcr was given?" % path)
+    tell(path, text, REFUSALS[words[2]](File(top), *words[3:]))
+    tell_passed_over(path, text, File(top))
+    return 1
 
 
+def explain_alone(path, data):
+    """Whether dcr takes the file, and what is odd in it."""
+    try:
+        reader.read_case(data)
+    except reader.Refused as refusal:
+        print("%s: dcr refuses it: %s" % (path, refusal))
+        return explain_refusal(path, data, str(refusal).split())
+    top, text = parse(data)
+    passed = tell_passed_over(path, text, File(top))
+    if not passed:
+        print("%s: dcr takes it, and passes over no member" % path)
+    return 1 if tell_odd(path, text, File(top)) + passed else 0
+
+
+def explain(path, words):
+    if words[:1] == ["tape"]:
+        tell_tape(*words[1:])
+        return 1
+    data = read_bytes(path)
+    if words[:1] == ["invalid"]:
+        tell_invalid(path, data, int(words[1]), words[2])
+        return 1
+    if words[:1] == ["refused"]:
+        return explain_refusal(path, data, words)
+    if words:
+        print("dcr found nothing to refuse: %s" % " ".join(words))
+        return 0
+    return explain_alone(path, data)
+
+
+@command(__doc__)
 def main(words):
-    if not words:
-        sys.exit(__doc__)
+    if not words or words[0].startswith("--"):
+        raise Usage
     path, words = words[0], " ".join(words[1:])
     if words == "-":
         words = sys.stdin.readline()
     try:
         return explain(path, words.split())
     except (KeyError, IndexError, ValueError, TypeError, AttributeError, StopIteration):
-        sys.exit("%s: the file has no such place as `%s` tells of: is it the file that dcr was given?" % (path, words.strip()))
+        raise Wrong("%s: the file has no such place as `%s` tells of: is it the file that dcr was given?" % (path, words.strip())) from None
 
 
 if __name__ == "__main__":

@@ -12,7 +12,7 @@ from checks.program import prepare  # noqa: F401
 from checks.serving import the_port
 
 # Commands that a reader calls and that take minutes, or that change what is not the repository's.
-NOT_RUN = re.compile(r"(rt |\.ci/run$|git |cd |ln -s|cp crates/dcr/out/dcr|bench/)")
+NOT_RUN = re.compile(r"(rt |\.ci/run$|git |cd |mkdir -p ~/\.local/bin |install -D |bench/)")
 LINK = re.compile(r"!?\[[^\]]*\]\(([^)\s]+)\)")
 
 
@@ -51,7 +51,7 @@ def check_files_that_are_named_are_there():
 
 
 def check_edits_that_are_named_are_there():
-    edits = {os.path.basename(it)[:-5] for it in glob.glob(TOP + "/crates/*/must-fail/*.edit")} | {*os.listdir(TOP + "/crates")}
+    edits = {os.path.basename(it)[:-5] for of in ("edits", "must-fail") for it in glob.glob(TOP + "/crates/*/%s/*.edit" % of)} | {*os.listdir(TOP + "/crates")}
     lost = []
     for line in read("docs/PROMISES.md").decode().splitlines():
         cells = line.split(" | ")
@@ -119,11 +119,21 @@ def check_functions_and_clauses_that_are_named_are_there():
     want(not lost, "docs/PROMISES.md names what there is not, in lines %s" % "; ".join(lost))
 
 
-def check_clauses_that_the_readme_names_are_those_of_the_call():
-    proved = read("README.md").decode().partition("\n## What is proved\n")[2].partition("\n## ")[0]
+def check_clauses_that_are_named_in_words_are_those_of_the_call():
+    proved = read("docs/PROMISES.md").decode().partition("\n## What is proved, in words\n")[2].partition("\n## ")[0]
     named = {it for part in re.findall(r"\*\*([^*]+)\*\*", proved) for it in re.findall(r"`(\w+)`", part) if it not in ("serve", "load")}
     lost = named - contracts()["dcr_app"]["dcr"]
-    want(named and not lost, "README.md names clauses that dcr_app::dcr hasn't: %s" % ", ".join(sorted(lost)))
+    want(named and not lost, "docs/PROMISES.md names clauses that dcr_app::dcr hasn't: %s" % ", ".join(sorted(lost)))
+
+
+def check_the_readme_is_a_page():
+    lines = read("README.md").decode().splitlines()
+    long = [number for number, line in enumerate(lines, 1) if len(line) > 200]
+    want(len(lines) <= 120 and not long, "README.md has %d lines, at most 120 are wanted; over 200 characters are lines %s" % (len(lines), long))
+    # (but for those whose names are words of the report or commands)
+    clauses = contracts()["dcr_app"]["dcr"] - {"valid", "invalid", "done", "report", "load"}
+    named = {it for line in lines for it in re.findall(r"`(\w+)`", line)} & clauses
+    want(not named, "README.md names clauses: %s" % ", ".join(sorted(named)))
 
 
 # ---- commands
@@ -171,6 +181,31 @@ def check_commands_that_are_not_run_are_known():
         lines = [line for block in blocks(text, "sh") for line in block.splitlines()]
         lost += ["%s: %s" % (page, line) for line in lines if not NOT_RUN.match(line)]
     want(not lost, "; ".join(lost))
+
+
+def check_the_blocks_for_the_path_leave_the_checkout_alone():
+    found = [it for text in pages().values() for it in blocks(text, "sh") if "~/.local/bin" in it]
+    want(len(found) == 2, "there are %d blocks for the path" % len(found))
+    script, program = ("#!/bin/sh\necho %s\n" % it for it in ("the script", "the program"))
+    # (each alone, one after the other, and each again)
+    for order in [(0,), (1,), (0, 1), (1, 0), (0, 0), (1, 1)]:
+        with tempfile.TemporaryDirectory() as room:
+            top, home = os.path.join(room, "the checkout"), os.path.join(room, "home")
+            os.makedirs(top + "/crates/dcr/out")
+            os.mkdir(home)
+            files = {top + "/dcr": script, top + "/crates/dcr/out/dcr": program}
+            for path, text in files.items():
+                with open(path, "w") as file:
+                    file.write(text)
+                os.chmod(path, 0o755)
+            for it in order:
+                status, _, said = run(["sh", "-c", found[it]], cwd=top, env={"HOME": home, "PATH": os.environ["PATH"]})
+                want(status == 0, "%s has status %d: %s" % (found[it], status, said))
+            for path, text in files.items():
+                with open(path) as file:
+                    want(file.read() == text, "%s is overwritten where the blocks %s are pasted" % (os.path.basename(path), order))
+            wrote = run([home + "/.local/bin/dcr"])[1]
+            want(wrote == (b"the script\n", b"the program\n")["install" in found[order[-1]]], "on the path is %s" % wrote)
 
 
 # ---- the column of FORMATS that finds the place

@@ -8,6 +8,7 @@ import json
 import os
 import random
 import re
+import shutil
 import subprocess
 import sys
 import tempfile
@@ -23,7 +24,7 @@ from replay import check as replayed  # noqa: E402
 PROGRAM = os.path.join(TOP, "crates/dcr/out/dcr")
 # The text that stands at the place that each refused example's line tells of.
 PLACES = {
-    "2-not-json.json": "]}}",
+    "2-not-json.json": ",]}}",
     "3-shape-event.json": "1",
     "3-shape-top-version.json": '"9"',
     "4-limit-label.json": '"' + "x" * 96 + "...",
@@ -63,17 +64,25 @@ def tool(name, *words, given=""):
     return status or 0, wrote.getvalue(), said.getvalue()
 
 
-def check_each_tool_starts():
-    for name in ("explain.py", "draw.py", "from_dcr_js.py"):
-        status, _, said = run([sys.executable, os.path.join(TOP, "tools", name)], cwd="/")
-        want(status == 1 and b"tools/%s" % name.encode() in said and b"Traceback" not in said, said.decode())
-
-
 def check_the_schema():
     wrote = io.StringIO()
     with contextlib.redirect_stdout(wrote):
         status = module("bench/schema.py").check(30, 1)
     want(status == 0, wrote.getvalue())
+
+
+def check_a_case_may_name_its_schema():
+    rule, case = json.loads(read("docs/case.schema.json")), {"$schema": "docs/case.schema.json", **json.loads(read("examples/medication.json"))}
+    wrong = module("bench/schema.py").wrong
+    want(wrong(case, rule, rule) is None, "the schema refuses the member by which editors find it: %s" % wrong(case, rule, rule))
+    want(wrong({**case, "$schema": 1}, rule, rule) and wrong({**case, "$shema": ""}, rule, rule), "the schema takes anything in its place")
+    with tempfile.NamedTemporaryFile("w", suffix=".json") as file:
+        json.dump(case, file)
+        file.flush()
+        told = tool("explain.py", file.name)
+        want(told == (0, file.name + ": dcr takes it, and passes over no member\n", ""), str(told))
+    ran = run([PROGRAM, "run"], json.dumps(case).encode())
+    want(ran[:2] == (0, read("examples/medication.report")), "dcr runs it otherwise")
 
 
 # ---- explain
@@ -150,11 +159,6 @@ def check_explain_knows_each_line_of_the_program():
     want(len(kinds) >= 8, "only the refusals %s came" % sorted(kinds))
 
 
-def check_explain_shows_the_wrong_line_of_a_report():
-    status, wrote, _ = tool("explain.py", os.path.join(EXAMPLES, "medication.report"), "invalid", "6", "outcome")
-    want(status == 1 and "medication.report:6:1" in wrote and "exec nurse gm condition s" in wrote, wrote)
-
-
 def check_explain_knows_the_lines_of_a_tape():
     for line in ("tape not-tape", "tape other-case", "tape bad 7", "tape long"):
         status, wrote, said = tool("explain.py", os.path.join(EXAMPLES, "medication.json"), *line.split())
@@ -179,12 +183,45 @@ def check_draw_draws_each_example():
         want_picture(name, tool("draw.py", "own", path + ".json")[1], words)
         status, wrote, _ = tool("draw.py", "dot", path + ".json")
         want(status == 0 and wrote.count("{") == wrote.count("}") and wrote.count(" -> ") == len(case["graph"]["relations"]), name)
+        # (the name beside each label, and the legend)
+        want(all(">%s<" % event["name"] in wrote for event in case["graph"]["events"] if '"%s" [' % event["name"] in wrote and "label" in event), "%s: a name is missing beside a label" % name)
+        want(all(" %s</font>" % kind in wrote for kind, _, _ in case["graph"]["relations"]) and "excluded at opening" in wrote, "%s: the legend" % name)
         verdict = read("examples/%s.report" % name).decode().split("\nverdict ")[1].split("\n")[0]
         want_picture(name, tool("draw.py", "run", path + ".report")[1], [*[site["site"] for site in case["cover"]], "verdict " + verdict])
 
 
+def check_graphviz_draws_a_nest_that_is_related_to_itself():
+    case = {"graph": {"events": [{"name": "N"}, {"name": "a", "parent": "N"}, {"name": "b", "parent": "N"}, {"name": "c"}]}, "cover": [{"site": "s", "events": ["N", "c"]}]}
+    case["graph"]["relations"] = [["exclude", "N", "N"], ["response", "a", "N"], ["condition", "c", "N"], ["include", "c", "c"]]
+    with tempfile.NamedTemporaryFile("w", suffix=".json") as file:
+        json.dump(case, file)
+        file.flush()
+        status, wrote, _ = tool("draw.py", "dot", file.name)
+        want(status == 0, wrote)
+        ends = re.findall(r'^"([^"]*)" -> "([^"]*)"', wrote, re.M)
+        want(ends == [("@N", "@N"), ("a", "@N"), ("c", "a"), ("c", "c")] and '"@N" [' in wrote and wrote.count("cluster_N") == 2, wrote)
+        if shutil.which("dot"):
+            drawn = subprocess.run(["dot", "-Tsvg"], input=wrote.encode(), stdout=subprocess.PIPE, stderr=subprocess.PIPE)
+            want(drawn.returncode == 0 and not drawn.stderr, "Graphviz says %s" % drawn.stderr)
+            want_picture("a nest", tool("draw.py", "case", file.name)[1], ["all of N", "excluded at opening"])
+
+
+def check_the_run_tells_all_of_a_long_change():
+    names = ["event-with-a-long-name-%d" % k for k in range(30)]
+    case = {"graph": {"events": [{"name": it} for it in names], "relations": [["response", names[0], it] for it in names]}, "cover": [{"site": "s", "events": names}], "sessions": [["exec s " + names[0], "look s"]]}
+    with tempfile.NamedTemporaryFile("w", suffix=".report") as file:
+        file.write(Case(json.dumps(case)).report())
+        file.flush()
+        status, wrote, said = tool("draw.py", "run", file.name)
+    want(status == 0, said)
+    texts = [it.text or "" for it in xml.etree.ElementTree.fromstring(wrote).iter("{http://www.w3.org/2000/svg}text")]
+    want(max(map(len, texts)) <= 140, "a line of %d characters" % max(map(len, texts)))
+    joined = re.sub(r"\s", "", "".join(texts))
+    want("+executed%s;+pending%s" % (names[0], ",".join(names)) in joined and "included" + ",".join(names) in joined, "something is cut off: %s" % joined[:900])
+
+
 def check_the_pictures_of_the_documents_are_those_that_draw_makes():
-    for file in sorted(os.listdir(os.path.join(TOP, "docs/pictures"))):
+    for file in sorted(it for it in os.listdir(os.path.join(TOP, "docs/pictures")) if it.endswith(".svg")):
         name, way = (file[:-8], "run") if file.endswith("-run.svg") else (file[:-4], "own")
         path = os.path.join(EXAMPLES, name + (".report" if way == "run" else ".json"))
         want(tool("draw.py", way, path)[1] == read("docs/pictures/" + file).decode(), "docs/pictures/%s is another: tools/draw.py %s %s makes it" % (file, way, os.path.relpath(path, TOP)))
@@ -192,46 +229,7 @@ def check_the_pictures_of_the_documents_are_those_that_draw_makes():
 
 def check_draw_says_what_it_cant_draw():
     status, _, said = tool("draw.py", "own", os.path.join(EXAMPLES, "refused/8-relation-end.json"))
-    want(status == 1 and "refuse" in said, said)
-
-
-# ---- from_dcr_js
-
-GRAPH = {
-    "events": {"isSet": True, "set": ["Event_1", "Event_2", "Event 3", "Event_4"]},
-    "conditionsFor": {"Event_2": {"isSet": True, "set": ["Event_1"]}, "Nest_1": ["Event_1"]},
-    "milestonesFor": {"Event_4": ["Event 3"]},
-    "responseTo": {"Event_1": ["Event_2"]},
-    "includesTo": {"Event_1": ["Event 3"]},
-    "excludesTo": {"Event_1": ["Event 3"], "Event_2": ["Event_2"]},
-    "marking": {"executed": ["Event_1"], "included": ["Event_1", "Event_2", "Event_4"], "pending": ["Event_4"]},
-    "labelMap": {"Event_1": "File the claim"},
-    "roleMap": {"Event_1": "the customer", "Event_2": "insurer"},
-    "nestingIds": ["Nest_1", "Nest_2"],
-    "nestingRelations": {"Event_2": "Nest_1", "Event 3": "Nest_1"},
-    "subProcesses": {"Sub_1": {}},
-    "deadlines": {"Event_2": 3},
-}
-
-
-def check_from_dcr_js():
-    with tempfile.NamedTemporaryFile("w", suffix=".json") as file:
-        json.dump(GRAPH, file)
-        file.flush()
-        status, wrote, said = tool("from_dcr_js.py", file.name)
-        one = json.loads(tool("from_dcr_js.py", "--site", "here", file.name)[1])
-    case = json.loads(wrote)
-    want(status == 0 and all(it in said for it in ("sub-processes", "deadlines", "Nest_2", "the exclude from Event_1")), said)
-    want(case["graph"]["events"][0] == {"name": "Nest_1"} and case["graph"]["events"][1] == {"name": "Event_2", "parent": "Nest_1"}, wrote)
-    want({"name": "Event_1", "label": "File the claim", "executed": True} in case["graph"]["events"], wrote)
-    want({"name": "Event-3", "label": "Event 3", "parent": "Nest_1", "included": False} in case["graph"]["events"], wrote)
-    relations = [["condition", "Event_1", "Event_2"], ["condition", "Event_1", "Nest_1"], ["milestone", "Event-3", "Event_4"]]
-    relations += [["response", "Event_1", "Event_2"], ["include", "Event_1", "Event-3"], ["exclude", "Event_2", "Event_2"]]
-    want(case["graph"]["relations"] == relations, wrote)
-    want({site["site"] for site in case["cover"]} == {"the-customer", "insurer", "all"} and len(one["cover"]) == 1, wrote)
-    for text in (case, one):
-        ran = subprocess.run([PROGRAM, "run"], input=json.dumps(text).encode(), stdout=subprocess.PIPE)
-        want(ran.returncode == 0, ran.stdout.decode())
+    want(status == 2 and "refused 8 relation-end 1" in said, said)
 
 
 # ---- the second implementations
@@ -240,8 +238,8 @@ def check_from_dcr_js():
 def check_the_examples_by_the_models():
     for name in examples():
         case, report = read("examples/%s.json" % name), read("examples/%s.report" % name)
-        want(Case(case.decode()).report() == report.decode(), "bench/model.py makes another report of %s" % name)
-        want(replayed(report) == "valid " + report.decode().rsplit("\nend ", 1)[1], "bench/replay.py finds %s wrong" % name)
+        want(Case(case.decode()).report() == report.decode(), "tools/model.py makes another report of %s" % name)
+        want(replayed(report) == "valid " + report.decode().rsplit("\nend ", 1)[1], "tools/replay.py finds %s wrong" % name)
 
 
 def check_the_case_over_two_days_by_the_models():
@@ -250,5 +248,5 @@ def check_the_case_over_two_days_by_the_models():
     second.executed, second.pending, second.included = first.executed, first.pending, first.included
     reports.append(second.report())
     for day, report in zip(("monday", "tuesday"), reports):
-        want(report == read("examples/stored/%s.report" % day).decode(), "bench/model.py makes another report of %s" % day)
-        want(replayed(report.encode()).startswith("valid "), "bench/replay.py finds %s wrong" % day)
+        want(report == read("examples/stored/%s.report" % day).decode(), "tools/model.py makes another report of %s" % day)
+        want(replayed(report.encode()).startswith("valid "), "tools/replay.py finds %s wrong" % day)

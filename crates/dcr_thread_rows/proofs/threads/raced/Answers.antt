@@ -1,4 +1,0 @@
-use Rattle.dcr_thread_rows.proofs.threads.raced.Goals as goal
-
-pub run-requires-clause-begins : goal.run-requires-clause-begins
-run-requires-clause-begins g c κs within = c.no_tape.ensures _
