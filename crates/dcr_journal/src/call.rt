@@ -142,6 +142,16 @@ pub struct Entry {
 impl Entry {
     ghost use Rattle.std.specs.Prelude.{◌≡◌};
 
+    // An entry to be written over.
+    pub(crate) fn blank() -> Entry {
+        Entry {
+            session: 0,
+            seq: 0,
+            call: Call::Accepting,
+            outcome: Outcome::AllDone,
+        }
+    }
+
     /// The same entry again. Takes no memory.
     pub fn copy(&self) -> Entry
         ensures { result ≡ self.now }

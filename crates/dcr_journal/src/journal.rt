@@ -79,6 +79,19 @@ impl Journal {
         });
     }
 
+    /// The same journal again, with the same capacity and memory of its own.
+    pub fn copy(&self, alloc: Global) -> Result<Journal, NoMemory>
+        ensures { IfOk result (λ journal. journal ≡ self.now) }
+    {
+        let mut copy = Journal::open(alloc, self.capacity)?;
+        let mut next = Entry::blank();
+        for place in 0..self.len() {
+            self.read(place, &mut next);
+            copy.push_call(next.session, next.seq, &next.call, &next.outcome);
+        }
+        Ok(copy)
+    }
+
     /// For how many more entries there is room.
     pub fn spare(&self) -> u32
         ensures spare { result + length self.now.entries ≡ self.now.capacity }
@@ -109,12 +122,7 @@ impl Journal {
         if place >= self.len() {
             return None;
         }
-        let mut entry = Entry {
-            session: 0,
-            seq: 0,
-            call: Call::Accepting,
-            outcome: Outcome::AllDone,
-        };
+        let mut entry = Entry::blank();
         self.read(place, &mut entry);
         Some(entry)
     }

@@ -88,6 +88,13 @@ impl Site {
         Decision::Enabled
     }
 
+    /// Whether the event is of the alphabet, so that the site must hear of its executions.
+    pub fn hears(&self, e: EventId) -> bool
+        ensures { result ≡ has self.now.projection.alphabet e }
+    {
+        self.projection.alphabet().contains(e)
+    }
+
     /// Applies an execution of an event of the alphabet to the marks.
     pub fn apply(&mut self, e: EventId)
         requires { has self.old.projection.alphabet e ≡ true }
@@ -119,8 +126,8 @@ impl Site {
         can
     }
 
-    // How many atoms the projection is over.
-    fn atoms(&self) -> u16
+    /// How many atoms the projection is over.
+    pub fn atoms(&self) -> u16
         ensures own { result ≡ length self.now.projection.own }
         ensures most { result ≤ MAX_ATOMS }
         ensures stands { (G : Rules) (S : List Bool) (M : Marks) → StandsAt G S M self.now → result ≡ G.atoms }
