@@ -1,9 +1,10 @@
 #!/usr/bin/env python3
 """Refuses each allocation of the program in turn, and shows that its calls take no memory.
 
-    bench/allocations.py             three rows: examples/medication.json by `run`, the same by `run --store` in an
-                                     empty folder, and its graph by `serve`, with a connection that sends four lines
-    bench/allocations.py trace ROW   each allocation of a row (run, store, serve): its number, its bytes, and the
+    bench/allocations.py             four rows: examples/medication.json by `run`, the same by `run --store` in an
+                                     empty folder, its executions by `nodes 5`, and its graph by `serve`, with a
+                                     connection that sends four lines
+    bench/allocations.py trace ROW   each allocation of a row (run, store, nodes, serve): its number, its bytes, and the
                                      functions that may have asked for it, the nearest first; calls of the system
                                      stand between
 
@@ -36,11 +37,12 @@ import tempfile
 sys.dont_write_bytecode = True
 sys.path.insert(0, os.path.dirname(os.path.abspath(__file__)))
 import second  # noqa: E402, F401
+import apart  # noqa: E402
 import linked  # noqa: E402
 import reader  # noqa: E402
 import stored  # noqa: E402
 from model import TOP, Case  # noqa: E402
-from trial import DCR, Network, Room, connected, exchanged, told_by, want_program  # noqa: E402
+from trial import DCR, Network, Room, connected, exchanged, told_by, unforeseen, want_program  # noqa: E402
 
 DONE, NO_MEMORY, DISK_FAULT = 0, 6, 7
 # More allocations than a run asks for.
@@ -83,9 +85,9 @@ class Watched:
 # ---- the rows: each gives the status, the output and the replies
 
 
-def run_row(how, *words):
+def run_row(how, *words, command="run"):
     how = {**how, "stdout": subprocess.PIPE, "stderr": subprocess.PIPE, "timeout": 60}
-    return (*told_by(subprocess.run([DCR, "run", *words], input=medication(), **how)), b"")
+    return (*told_by(subprocess.run([DCR, command, *words], input=medication(), **how)), b"")
 
 
 def serve_row(how, lines=tuple(LINES)):
@@ -97,10 +99,11 @@ def serve_row(how, lines=tuple(LINES)):
         link = connected(program)
         replies = exchanged(link, [b"".join(line + b"\n" for line in lines)]) if link else b""
         wrote, said = program.communicate(timeout=60)
+        said = unforeseen(said)
     return (program.returncode, wrote, *[said] * bool(said), replies)
 
 
-ROWS = {"run": run_row, "store": lambda how: run_row(how, "--store"), "serve": serve_row}
+ROWS = {"run": run_row, "store": lambda how: run_row(how, "--store"), "nodes": lambda how: run_row(how, "5", command="nodes"), "serve": serve_row}
 
 
 # ---- each allocation refused in turn
@@ -150,7 +153,7 @@ def wrong(row, seen):
         return "the tape can't be gone on from"
     if row == "store" and status == DISK_FAULT:
         return None if is_unkept(wrote, seen.tape) else "a fault of the disk with another report or tape"
-    wholes = reports_served() if row == "serve" else [(reader.answer(medication())[1], b"")]
+    wholes = reports_served() if row == "serve" else [((apart.answer(medication(), 5) if row == "nodes" else reader.answer(medication()))[1], b"")]
     if status not in (DONE, NO_MEMORY):
         return "status %d" % status
     if status == DONE and (wrote, replies) != wholes[-1]:

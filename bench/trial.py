@@ -59,9 +59,15 @@ def want_program():
         sys.exit("%s is not there: `./dcr` builds the program" % DCR)
 
 
+def unforeseen(said):
+    """What stands on standard error but for the sentences of the program."""
+    return b"".join(line for line in said.splitlines(keepends=True) if not line.startswith(b"dcr: "))
+
+
 def told_by(ran):
-    """The status and what was written; what was said too, where anything was."""
-    return (ran.returncode, ran.stdout) if not ran.stderr else (ran.returncode, ran.stdout, ran.stderr)
+    """The status and what was written; what was said too that the program doesn't say, where anything was."""
+    said = unforeseen(ran.stderr)
+    return (ran.returncode, ran.stdout, said) if said else (ran.returncode, ran.stdout)
 
 
 def dcr(words, given, **how):
@@ -198,5 +204,6 @@ def serve(text, links, draw, words=(), **how):
             wrote, said = program.communicate(timeout=SECONDS)
         # (the port is another program's, which doesn't ask for the lock)
         if program.returncode != DOOR_FAULT or told or Network.is_own:
-            return (program.returncode, wrote, told) if not said else (program.returncode, wrote, told, said)
+            said = unforeseen(said)
+            return (program.returncode, wrote, told, said) if said else (program.returncode, wrote, told)
         time.sleep(0.1)

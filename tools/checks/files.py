@@ -18,6 +18,7 @@ from checks import EXAMPLES, TOP, examples, read, run, want
 from checks.program import prepare  # noqa: F401
 
 sys.path[:0] = [os.path.join(TOP, "tools"), os.path.join(TOP, "bench")]
+import apart  # noqa: E402
 from model import Case, random_case  # noqa: E402
 from replay import check as replayed  # noqa: E402
 
@@ -233,6 +234,27 @@ def check_draw_says_what_it_cant_draw():
 
 
 # ---- the second implementations
+
+
+def check_sites_apart_make_the_report_of_the_executions():
+    for name in examples():
+        case = read("examples/%s.json" % name)
+        for number in (0, 5, 4294967295):
+            status, report, _ = run([PROGRAM, "nodes", str(number)], given=case)
+            want((status, report) == apart.answer(case, number), "nodes %d of %s: %d %s" % (number, name, status, report))
+        status, verdict, _ = run([PROGRAM, "replay"], given=report)
+        want(status == 0 and verdict.startswith(b"valid "), "replay finds the report of %s %s" % (name, verdict))
+    for number in (1, 2, 77):
+        report = run([PROGRAM, "nodes", str(number)], given=read("examples/apart.json"))[1]
+        want(report == read("examples/apart.report"), "nodes %d of apart.json makes another report" % number)
+
+
+def check_sites_apart_over_random_networks():
+    draw = random.Random(7)
+    for _ in range(60):
+        text, number = random_case(draw).encode(), draw.choice([draw.randrange(20), draw.randrange(1 << 32)])
+        status, report, _ = run([PROGRAM, "nodes", str(number)], given=text)
+        want(report.startswith(b"refused 9 clash ") or (status, report) == apart.answer(text, number), "nodes %d of %s: %s" % (number, text, report))
 
 
 def check_the_examples_by_the_models():

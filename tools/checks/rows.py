@@ -32,6 +32,7 @@ from checks import TOP, want
 from checks.program import PROGRAM, prepare  # noqa: F401
 
 sys.path[:0] = [os.path.join(TOP, "tools"), os.path.join(TOP, "bench")]
+import apart  # noqa: E402
 import load  # noqa: E402
 import reader  # noqa: E402
 import replay  # noqa: E402
@@ -185,6 +186,8 @@ def modelled(row, given):
         return 0 if line.startswith("valid") else 8, line.encode()
     if row.words[:1] == ["load"] and len(row.words) == 2:
         return 0, load.line_of(int(row.words[1])).encode()
+    if row.words[:1] == ["nodes"]:
+        return apart.answer(given, int(row.words[1]))
     if row.tape is not None:
         return stored.answer(given, row.tape or None)[:2]
     return reader.answer(given)

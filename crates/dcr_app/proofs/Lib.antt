@@ -8,3 +8,4 @@ mod OverLemmas
 mod LoadLemmas
 mod FaultlessLemmas
 mod ReplayLemmas
+mod ApartLemmas

@@ -39,7 +39,7 @@ appends_nothing None = tt
 appends_nothing (Some xs) = sym (append-nil xs)
 
 abbrev pub silent_end : Status → Answer
-silent_end status = record { status = status; closed = None }
+silent_end status = record { status = status; closed = None; world = None }
 
 pub unread : (end : Answer) (had : Option (List ℕ)) → end ≡ silent_end ReadFault → IsSilent end.status had had
 unread end had is = (inl (ap (λ (e : Answer). e.status) is), appends_nothing had)
@@ -49,6 +49,9 @@ starved end had is = (inr (ap (λ (e : Answer). e.status) is), appends_nothing h
 
 pub untold : (status : Status) (end : Answer) → end ≡ silent_end status → end.closed ≡ None
 untold status end is = ap (λ (e : Answer). e.closed) is
+
+pub unworlded : (status : Status) (end : Answer) → end ≡ silent_end status → end.world ≡ None
+unworlded status end is = ap (λ (e : Answer). e.world) is
 
 -- a text that is due was written whole
 pub whole : (due : Status) (text : List ℕ) (had took : Option (List ℕ)) → IsDue due → Appends had took text → Wrote due text due had took

@@ -1,5 +1,6 @@
 -- What `replay` answers.
 use Rattle.std.proofs.Common.{◌≡◌, ◌≢◌, ◌⊎◌, ℕ, ◌<◌, ◌≤◌, List, length, Option, Some, None, IfSome, inl, inr, refl, sym, ap, subst, ◌∙◌, arith}
+use Rattle.std.specs.Io.KnownBytes.{Appends}
 use Rattle.dcr_base.specs.declared.status.Status.{Status}
 use Rattle.dcr_base.specs.declared.status.Status.TheVariants.{Done, Refused, ReadFault, WriteFault, NoMemory, Invalid}
 use Rattle.dcr_json.specs.declared.case.CaseStop.TheVariants.{TooLong}
@@ -107,6 +108,18 @@ invalid_by left had took bytes (Some (verdict.Invalid number kind)) law one firs
 pub says_invalid : (left had took : Option (List ℕ)) (status : Status) → ValidIsReport → VerdictIsOne → LeastIsTold → status ≡ Invalid → AnswersReport left had took status → SaysInvalid left had took
 says_invalid left had took status law one first is answer =
     let t = told_at left had took status Invalid is (λ e. absurd cc) (λ e. absurd cc) answer in invalid_by left had took t.bytes t.found law one first t.read t.finds t.line
+
+refused_by_length : (left had took : Option (List ℕ)) (bytes : List ℕ) (found : Option Verdict) → WereLeft left bytes → Finds bytes found → WroteFound found Refused had took
+    → IfSome left (λ it. 268435456 < length it) × Appends had took (refusal_line TooLong)
+refused_by_length left had took bytes None read finds line = (of_left (λ it. 268435456 < length it) left bytes read finds, line.1)
+refused_by_length left had took bytes (Some (verdict.Valid count)) read finds line = let wrong : Refused ≡ Done = line.0 in absurd cc
+refused_by_length left had took bytes (Some (verdict.Invalid number kind)) read finds line = let wrong : Refused ≡ Invalid = line.0 in absurd cc
+
+-- with Refused the report has too many bytes
+pub refuses_report : (left had took : Option (List ℕ)) (status : Status) → status ≡ Refused → AnswersReport left had took status
+    → IfSome left (λ it. 268435456 < length it) × Appends had took (refusal_line TooLong)
+refuses_report left had took status is answer =
+    let t = told_at left had took status Refused is (λ e. absurd cc) (λ e. absurd cc) answer in refused_by_length left had took t.bytes t.found t.read t.finds t.line
 
 -- ---- what an input and an output that don't fail end with
 

@@ -117,12 +117,12 @@ wrote_report case closed due status had took wrote is_report done =
 stops : {A B : Type 0} (o : Result A CaseStop) (f : A → Result B CaseStop) (why : CaseStop) → o ≡ Err why → (o >>= f) ≡ Err why
 stops o f why is = ap (λ r. r >>= f) is
 
-too_long : (bytes : List ℕ) → 16777216 < length bytes → case_in bytes ≡ Err stop.TooLong
+pub too_long : (bytes : List ℕ) → 16777216 < length bytes → case_in bytes ≡ Err stop.TooLong
 unfolding case_in
 too_long bytes more = stops _ _ stop.TooLong (ap (λ t. cond t (Ok bytes) (Err stop.TooLong)) (lt-leb (length bytes) 16777216 more))
 
 -- whether a refusal is want of memory
-is_memory : (why : CaseStop) → (why ≡ stop.NoMemory) ⊎ (why ≢ stop.NoMemory)
+pub is_memory : (why : CaseStop) → (why ≡ stop.NoMemory) ⊎ (why ≢ stop.NoMemory)
 is_memory stop.NoMemory = inl refl
 is_memory stop.TooLong = inr (λ e. cc)
 is_memory stop.NotJson = inr (λ e. cc)

@@ -17,10 +17,15 @@ use Rattle.dcr_tape.specs.declared.entry.TapeEntry.{TapeEntry}
 use Rattle.dcr_tape.specs.declared.tape.Store.{Store}
 use Rattle.dcr_cell.specs.Stored.{IsTaped}
 use Rattle.dcr_cluster.specs.Opening.{ArePossible}
+use Rattle.dcr_node.specs.WorldState.{WorldState}
+use Rattle.dcr_schedule.specs.Apart.{HasRunApart}
+use Rattle.dcr_schedule.specs.Executions.{exec_calls}
 use Rattle.dcr_json.specs.Case.{case_in}
 use Rattle.dcr_json.specs.Judged.{Spelled}
+use Rattle.dcr_json.specs.Refusals.{SpellsCase}
 use Rattle.dcr_json.specs.declared.case.CaseStop.{CaseStop}
 use Rattle.dcr_json.specs.declared.case.CaseStop.TheVariants as stop
+use Rattle.dcr_report.specs.Report.{report_text}
 use Rattle.dcr_replay.specs.FirstWrong.{IsVerdict}
 use Rattle.dcr_replay.specs.Laws.{IsReport}
 use Rattle.dcr_replay.specs.LeastWrong.{IsLeastWrong}
@@ -36,7 +41,7 @@ use Rattle.dcr_app.specs.Stored.{Keeps, RefusesTape, tape_line}
 use Rattle.dcr_app.specs.Telling.{Doors, Telling, by_workers, over_links}
 use Rattle.dcr_app.specs.declared.app.End.{End}
 use Rattle.dcr_app.specs.declared.command.Command.{Command}
-use Rattle.dcr_app.specs.declared.command.Command.TheVariants.{Run, Serve, Replay, Load}
+use Rattle.dcr_app.specs.declared.command.Command.TheVariants.{Run, Serve, Replay, Load, Nodes}
 
 -- ---- `run` and `serve`
 
@@ -188,6 +193,25 @@ IsAnsweredReport bytes status =
     (268435456 < length bytes → IsOr Refused status)
     × (length bytes ≤ 268435456 → (verdict : Verdict) → IsVerdict bytes verdict → IsOr (verdict_status verdict) status)
 
+-- ---- `nodes`
+
+-- The executions of the case that was read were run at sites apart, and the report of that run was due.
+pub record TellsApart (left : Option (List ℕ)) (has_ended : Type 0) (had took : Option (List ℕ)) (status : Status) (closed : Closed) (world : WorldState) : Type 0 where
+  pub case : Spelled
+  -- the bytes that the input had left at entry spell the case, and none is left
+  pub input : (bytes : List ℕ) × WereLeft left bytes × SpellsCase bytes case × has_ended
+  -- the world is one over the case's graph, cover and opening marking, its journal is the told run of the executions,
+  -- every site has heard of its whole stream, and the run that is told is how the world closed
+  pub ran : HasRunApart (rules_in case) case.cover.owned case.opening case.sessions world closed
+  -- what the output took is the report of that run
+  pub report : Wrote Done (report_text case.nested case.cover case.opening (told (rules_in case) case.cover.owned case.opening (exec_calls case.sessions))) status had took
+
+-- where no run is told, nothing was written or the bytes are refused
+abbrev pub AnswersApart : Option (List ℕ) → Type 0 → Option (List ℕ) → Option (List ℕ) → Status → Option Closed → Option WorldState → Type 0
+AnswersApart left has_ended had took status (Some closed) (Some world) = TellsApart left has_ended had took status closed world
+AnswersApart left has_ended had took status None None = IsSilent status had took ⊎ IsRefused left had took status
+AnswersApart left has_ended had took status closed world = ⊥
+
 -- ---- every command
 
 -- whether the command keeps its executions in a store
@@ -195,6 +219,11 @@ abbrev pub IsStored : Option Command → Type 0
 IsStored (Some (Run workers true)) = Unit {0}
 IsStored (Some (Serve sessions workers true)) = Unit {0}
 IsStored command = ⊥
+
+-- whether the command runs executions at sites apart
+abbrev pub IsApart : Option Command → Type 0
+IsApart (Some (Nodes number)) = Unit {0}
+IsApart command = ⊥
 
 -- whether the command serves sessions over links
 abbrev pub IsServing : Option Command → Type 0
@@ -219,6 +248,7 @@ Answers view faults doors (Some (Serve sessions workers store)) door before left
     AnswersCase view faults (over_links doors door end.door sessions end.ends.items) store before end.disk left has_ended had took end.status end.closed
 Answers view faults doors (Some Replay) door before left has_ended had took end = (end.closed ≡ None) × AnswersReport left had took end.status
 Answers view faults doors (Some (Load number)) door before left has_ended had took end = AnswersLoad number had took end.status end.closed
+Answers view faults doors (Some (Nodes number)) door before left has_ended had took end = AnswersApart left has_ended had took end.status end.closed end.world
 
 -- the line that was written says why the bytes that were read are no case
 abbrev pub RefusesCase : Option (List ℕ) → Option (List ℕ) → Option (List ℕ) → Type 0
@@ -232,5 +262,6 @@ Refuses None left had took = ⊥
 Refuses (Some (Load number)) left had took = ⊥
 Refuses (Some (Run workers store)) left had took = RefusesCase left had took
 Refuses (Some (Serve sessions workers store)) left had took = RefusesCase left had took
+Refuses (Some (Nodes number)) left had took = RefusesCase left had took
 Refuses (Some Replay) left had took =
     IfSome left (λ bytes. 268435456 < length bytes) × Appends had took (refusal_line stop.TooLong)

@@ -4,7 +4,7 @@ use Rattle.std.specs.Str.{bytes_eq}
 use Rattle.std.specs.declared.alloc.Global.{Global}
 use Rattle.dcr_set.specs.Least.{least}
 use Rattle.dcr_app.specs.declared.command.Command.{Command}
-use Rattle.dcr_app.specs.declared.command.Command.TheVariants.{Run, Serve, Replay, Load}
+use Rattle.dcr_app.specs.declared.command.Command.TheVariants.{Run, Serve, Replay, Load, Nodes}
 use Rattle.dcr_app.specs.declared.way.Way.{Way}
 use Rattle.dcr_app.specs.declared.way.Way.TheVariants as way
 
@@ -18,7 +18,7 @@ workers_in word = number_in 1 64 word
 abbrev pub sessions_in : List ℕ → Option ℕ
 sessions_in word = number_in 1 1024 word
 
--- the number of a case that is made
+-- the number of a case that is made, or of a network
 abbrev pub load_in : List ℕ → Option ℕ
 load_in word = number_in 0 4294967295 word
 
@@ -68,6 +68,16 @@ abbrev pub load_with : List (List ℕ) → Option Command
 load_with (number ∷ []) = load_by (load_in number)
 load_with words = None
 
+-- a run at sites apart over the network of a number, where one is spelled
+abbrev pub nodes_by : Option ℕ → Option Command
+nodes_by None = None
+nodes_by (Some number) = Some (Nodes number)
+
+-- the number stands behind `nodes`, and nothing else
+abbrev pub nodes_with : List (List ℕ) → Option Command
+nodes_with (number ∷ []) = nodes_by (load_in number)
+nodes_with words = None
+
 -- the command that these texts spell
 abbrev pub command_spelled : List (List ℕ) → Option Command
 command_spelled [] = None
@@ -75,7 +85,8 @@ command_spelled (word ∷ rest) =
     if bytes_eq word (codes "run") then run_with rest
     else (if bytes_eq word (codes "serve") then serve_with rest
     else (if bytes_eq word (codes "replay") then replay_with rest
-    else (if bytes_eq word (codes "load") then load_with rest else None)))
+    else (if bytes_eq word (codes "load") then load_with rest
+    else (if bytes_eq word (codes "nodes") then nodes_with rest else None))))
 
 abbrev pub command_in : List (String Global) → Option Command
 command_in words = command_spelled (map string_bytes words)
@@ -92,6 +103,7 @@ HasNumbers (Run workers store) = AreWorkers workers
 HasNumbers (Serve sessions workers store) = AreSessions sessions × AreWorkers workers
 HasNumbers Replay = Unit {0}
 HasNumbers (Load number) = Unit {0}
+HasNumbers (Nodes number) = Unit {0}
 
 abbrev pub IsWay : Way → Type 0
 IsWay (way.Run workers) = AreWorkers workers

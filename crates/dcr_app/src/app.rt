@@ -1,14 +1,15 @@
-ghost use Rattle.std.specs.Prelude.{◌≡◌, ◌≢◌, ◌⊎◌, ◌≤◌, Bool, ℕ, length, Some, None, IfSome};
+ghost use Rattle.std.specs.Prelude.{◌≡◌, ◌≢◌, ◌⊎◌, ◌≤◌, Bool, false, ℕ, length, Some, None, IfSome};
 ghost use Rattle.std.specs.Io.KnownBytes.{IsAtEnd};
 ghost use Rattle.dcr_base.specs.Count.{Rose};
 ghost use Rattle.dcr_json.specs.Case.{case_in};
-ghost use Rattle.dcr_app.specs.Answers.{Answers, EndsRun, EndsServing, IsAnsweredCase, IsAnsweredReport, IsDoneThroughout, IsOr, IsReading, IsServing, IsStored, IsTapeRefused, IsToldByOne, Refuses, SaysInvalid, SaysValid, WroteReport};
+ghost use Rattle.dcr_app.specs.Answers.{Answers, EndsRun, EndsServing, IsApart, IsAnsweredCase, IsAnsweredReport, IsDoneThroughout, IsOr, IsReading, IsServing, IsStored, IsTapeRefused, IsToldByOne, Refuses, SaysInvalid, SaysValid, WroteReport};
 ghost use Rattle.dcr_app.specs.Command.{command_in};
 ghost use Rattle.dcr_app.specs.Outside.{TookAtMost, most_read};
 ghost use Rattle.dcr_app.specs.Stored.{StandsStill};
 ghost use Rattle.dcr_app.specs.Telling.{IsUnasked, LeavesDoor, doors_of};
-ghost use Rattle.dcr_app.specs.declared.command.Command.TheVariants.{Run, Serve, Replay, Load};
+ghost use Rattle.dcr_app.specs.declared.command.Command.TheVariants.{Run, Serve, Replay, Load, Nodes};
 
+use crate::apart::apart;
 use crate::command::{Command, command_of};
 use crate::load::load;
 use crate::replay::replay;
@@ -19,6 +20,7 @@ use dcr_base::{Disk, Door, Gate, Link, Sink, Source, Status};
 use dcr_engine::ordered_is_told;
 use dcr_journal::Closed;
 use dcr_json::when_each_refusal_comes;
+use dcr_node::World;
 use dcr_replay::{a_text_has_one_verdict, the_first_wrong_line_is_told, valid_is_report};
 use dcr_serving::LinkEnd;
 use dcr_tape::{no_cause, one_list};
@@ -31,7 +33,7 @@ use std::thread::Threads;
 pub struct End<B: Door, D> {
     /// How the program ended.
     pub status: Status,
-    /// The run of the case, where `run` or `serve` read one, or `load` made one, and it was executed: with `Done`,
+    /// The run of the case, where `run`, `serve` or `nodes` read one, or `load` made one, and it was executed: with `Done`,
     /// `DiskFault`, `Full` and `DoorFault`, and with `WriteFault` where its report or line was to be written. With `NoMemory` it may be there. With
     /// `DiskFault` it is missing where the disk failed before the first call.
     pub closed: Option<Closed>,
@@ -42,6 +44,9 @@ pub struct End<B: Door, D> {
     /// How the session over each link has ended that the door gave, in order. There are none where no run is told, and
     /// none but with `serve`.
     pub ends: Vec<LinkEnd<B::Link>>,
+    /// All nodes after the run, and every message that was sent, where `nodes` told a run. It is there exactly where
+    /// `closed` is, and with no other command.
+    pub world: Option<World>,
 }
 
 /// The program. `run` reads a case file to its end, makes its sessions' calls by so many workers on sites that stand behind
@@ -52,6 +57,9 @@ pub struct End<B: Door, D> {
 /// it is empty, and each execution is on the disk before it is answered. `replay` reads a report to its end, checks it by the
 /// plain engine of the whole graph, and writes one line: that it is the report of a legal history, or which line is the first
 /// wrong one. `load` reads nothing: it makes the case of its number, runs it by one worker, and writes one line about that run.
+/// `nodes` reads a case file as `run` does, runs its executions, and no other call, at sites that talk by messages alone, over
+/// a network that loses, repeats and reorders them as its number picks, and writes the report, which is the same for every
+/// number.
 /// Other words are answered by the line `usage`. A file that is no case, and a report of more than 268,435,456
 /// bytes, is refused by one line that tells why, and so is a disk that isn't empty and isn't a tape of the case that can be
 /// gone on from.
@@ -149,6 +157,13 @@ pub fn dcr<
         → (Rose (O.write_faults output.old) (O.write_faults output.new) → ⊥)
         → IfSome (I.left input.old) (λ bytes. IsAnsweredReport bytes result.status) }
 
+    ensures apart { (number : ℕ) → command_in words.now ≡ Some (Nodes number)
+        → (Rose (I.read_faults input.old) (I.read_faults input.new) → ⊥)
+        → (Rose (O.write_faults output.old) (O.write_faults output.new) → ⊥)
+        → IfSome (I.left input.old) (λ bytes. IsAnsweredCase EndsRun false (D.view disk) (case_in bytes) result.status) }
+    ensures no_world { ¬ IsApart (command_in words.now) → result.world ≡ None }
+    ensures untold { result.closed ≡ None → result.world ≡ None }
+
     ensures loaded { (number : ℕ) → command_in words.now ≡ Some (Load number)
         → (Rose (O.write_faults output.old) (O.write_faults output.new) → ⊥) → IsOr Status.Done result.status }
 {
@@ -186,6 +201,11 @@ pub fn dcr<
             (replay(alloc, input, output), disk)
         }
         Some(Command::Load { number }) => load(rt, alloc, number, output, disk, gate),
+        Some(Command::Nodes { number }) => {
+            // What the bytes of a case say, for the clause on `nodes`.
+            when_each_refusal_comes();
+            (apart(alloc, number, input, output), disk)
+        }
     };
     answer.over(door, disk, Vec::new(alloc))
 }

@@ -1,5 +1,5 @@
 ghost use Rattle.std.specs.Prelude.{◌≡◌, ◌<◌, ◌≤◌, map, string_bytes, IfSome};
-ghost use Rattle.dcr_app.specs.Command.{HasNumbers, before_numbers, command_in, load_with, number_in, run_by, run_with, serve_by, serve_with};
+ghost use Rattle.dcr_app.specs.Command.{HasNumbers, before_numbers, command_in, load_with, nodes_with, number_in, run_by, run_with, serve_by, serve_with};
 
 use dcr_text::{decimal_is_one_number, read_decimal};
 
@@ -22,6 +22,10 @@ pub enum Command {
     Replay,
     /// Run the case that the number spells, by one worker.
     Load {
+        number: u32,
+    },
+    /// Run the executions of a case at sites that talk by messages, over the network of a number, and write the report.
+    Nodes {
         number: u32,
     },
 }
@@ -50,6 +54,9 @@ pub(crate) fn command_of(words: &[String]) -> Option<Command>
     }
     if word.as_str() == "load" {
         return load_of(rest);
+    }
+    if word.as_str() == "nodes" {
+        return nodes_of(rest);
     }
     None
 }
@@ -158,6 +165,20 @@ fn load_of(words: &[String]) -> Option<Command>
         return None;
     };
     Some(Command::Load { number })
+}
+
+// The run at sites apart that the words behind `nodes` ask for.
+fn nodes_of(words: &[String]) -> Option<Command>
+    ensures spelled { result ≡ nodes_with (map string_bytes words.now) }
+    ensures numbers { IfSome result HasNumbers }
+{
+    let [number] = words else {
+        return None;
+    };
+    let Some(number) = number_of(number.as_str(), 0, u32::MAX) else {
+        return None;
+    };
+    Some(Command::Nodes { number })
 }
 
 // The number from the one to the other that a word spells in decimal without leading zeros.

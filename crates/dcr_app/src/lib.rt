@@ -3,6 +3,7 @@
 #![tactic(auto)]
 
 mod answer;
+mod apart;
 mod app;
 mod command;
 mod lines;
@@ -18,4 +19,6 @@ pub use app::{End, dcr};
 pub use dcr_base::Status;
 pub use dcr_journal::{Call, CallList, Closed, Entry, Journal, MarkList, Outcome};
 pub use dcr_link::{WorkCause, WorkEnd};
+pub use dcr_node::World;
+pub use dcr_schedule::run_nodes;
 pub use dcr_serving::LinkEnd;

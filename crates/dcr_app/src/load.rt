@@ -37,6 +37,7 @@ pub(crate) fn load<O: Sink, D: Disk + Send, G: Gate + Drop + Sync, R: Threads + 
 ) -> (Answer, D)
     ensures answers { AnswersLoad number (O.taken output.old) (O.taken output.new) result.0.status result.0.closed }
     ensures disk { result.1 ≡ disk }
+    ensures world { result.0.world ≡ None }
     ensures ends { (result.0.status ≡ Status.Done) ⊎ ((result.0.status ≡ Status.WriteFault) ⊎ (result.0.status ≡ Status.NoMemory)) }
     ensures counted { result.0.status ≡ Status.WriteFault → Rose (O.write_faults output.old) (O.write_faults output.new) }
     ensures no_write_fault { result.0.status ≢ Status.WriteFault → O.write_faults output.new ≡ O.write_faults output.old }
@@ -66,6 +67,7 @@ fn load_case<O: Sink, D: Disk + Send, G: Gate + Drop + Sync, R: Threads + Wait +
     requires load { case_of case.now ≡ load number }
     ensures answers { AnswersLoad number (O.taken output.old) (O.taken output.new) result.0.status result.0.closed }
     ensures disk { result.1 ≡ disk }
+    ensures world { result.0.world ≡ None }
     ensures ends { (result.0.status ≡ Status.Done) ⊎ ((result.0.status ≡ Status.WriteFault) ⊎ (result.0.status ≡ Status.NoMemory)) }
     ensures counted { result.0.status ≡ Status.WriteFault → Rose (O.write_faults output.old) (O.write_faults output.new) }
     ensures no_write_fault { result.0.status ≢ Status.WriteFault → O.write_faults output.new ≡ O.write_faults output.old }
@@ -92,6 +94,7 @@ fn load_case<O: Sink, D: Disk + Send, G: Gate + Drop + Sync, R: Threads + Wait +
             let answer = Answer {
                 status,
                 closed: Some(closed),
+                world: None,
             };
             (answer, disk_of(store))
         }

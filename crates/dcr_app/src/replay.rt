@@ -20,6 +20,7 @@ const MAX_BYTES: usize = 268_435_456;
 /// Reads a report to its end and tells its verdict.
 pub(crate) fn replay<I: Source, O: Sink>(alloc: Global, input: &mut I, output: &mut O) -> Answer
     ensures closed { result.closed ≡ None }
+    ensures world { result.world ≡ None }
     ensures answers { AnswersReport (I.left input.old) (O.taken output.old) (O.taken output.new) result.status }
     ensures asked { TookAtMost 268435457 (I.left input.old) (I.left input.new) }
     ensures ended { result.status ≡ Status.Done → I.has_ended input.new }
@@ -43,6 +44,7 @@ pub(crate) fn replay<I: Source, O: Sink>(alloc: Global, input: &mut I, output: &
 fn replay_bytes<O: Sink>(alloc: Global, bytes: &[u8], output: &mut O) -> Answer
     requires { length bytes.now ≤ 268435456 }
     ensures closed { result.closed ≡ None }
+    ensures world { result.world ≡ None }
     ensures answers { AnswersReport (Some bytes.now) (O.taken output.old) (O.taken output.new) result.status }
     ensures no_read_fault { result.status ≢ Status.ReadFault }
     ensures counted { result.status ≡ Status.WriteFault → Rose (O.write_faults output.old) (O.write_faults output.new) }

@@ -53,6 +53,7 @@ pub(crate) fn run<
     ensures door { Leaves (doors_of B.links B.is_shut B.faults B.Link.left B.Link.taken B.Link.Rest.unread B.Link.Rest.sent
         B.Link.Rest.failed_reads B.Link.Rest.failed_writes)
         way result.closed door result.door result.ends.items result.status }
+    ensures world { result.world ≡ None }
     ensures report { result.status ≡ Status.Done → WroteReport (O.taken output.old) (O.taken output.new) result.closed }
     ensures asked { TookAtMost 16777217 (I.left input.old) (I.left input.new) }
     ensures ended { result.status ≡ Status.Done → I.has_ended input.new }
@@ -105,6 +106,7 @@ fn run_bytes<
     ensures door { Leaves (doors_of B.links B.is_shut B.faults B.Link.left B.Link.taken B.Link.Rest.unread B.Link.Rest.sent
         B.Link.Rest.failed_reads B.Link.Rest.failed_writes)
         way result.closed door result.door result.ends.items result.status }
+    ensures world { result.world ≡ None }
     ensures report { result.status ≡ Status.Done → WroteReport (O.taken output.old) (O.taken output.new) result.closed }
     ensures no_read_fault { result.status ≢ Status.ReadFault }
     ensures counted { result.status ≡ Status.WriteFault → Rose (O.write_faults output.old) (O.write_faults output.new) }
@@ -150,6 +152,7 @@ fn run_case_on<
     ensures door { Leaves (doors_of B.links B.is_shut B.faults B.Link.left B.Link.taken B.Link.Rest.unread B.Link.Rest.sent
         B.Link.Rest.failed_reads B.Link.Rest.failed_writes)
         way result.closed door result.door result.ends.items result.status }
+    ensures world { result.world ≡ None }
     ensures report { result.status ≡ Status.Done → WroteReport (O.taken output.old) (O.taken output.new) result.closed }
     ensures no_read_fault { result.status ≢ Status.ReadFault }
     ensures counted { result.status ≡ Status.WriteFault → Rose (O.write_faults output.old) (O.write_faults output.new) }

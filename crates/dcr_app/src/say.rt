@@ -16,11 +16,12 @@ use std::alloc::Global;
 
 /// An answer without a run.
 pub(crate) fn silent(status: Status) -> Answer
-    ensures { result ≡ record { status = status; closed = None } }
+    ensures { result ≡ record { status = status; closed = None; world = None } }
 {
     Answer {
         status,
         closed: None,
+        world: None,
     }
 }
 
@@ -28,6 +29,7 @@ pub(crate) fn silent(status: Status) -> Answer
 pub(crate) fn say<O: Sink>(output: &mut O, line: &[u8], status: Status) -> Answer
     requires { IsDue status }
     ensures closed { result.closed ≡ None }
+    ensures world { result.world ≡ None }
     ensures wrote { Wrote status line.now result.status (O.taken output.old) (O.taken output.new) }
     ensures status { (result.status ≡ status) ⊎ (result.status ≡ Status.WriteFault) }
     ensures counted { result.status ≡ Status.WriteFault → Rose (O.write_faults output.old) (O.write_faults output.new) }
@@ -44,6 +46,7 @@ pub(crate) fn say<O: Sink>(output: &mut O, line: &[u8], status: Status) -> Answe
 /// line of a file that is too long needs none.
 pub(crate) fn refuse<O: Sink>(alloc: Global, output: &mut O, stop: CaseStop) -> Answer
     ensures closed { result.closed ≡ None }
+    ensures world { result.world ≡ None }
     ensures wrote { stop ≢ CaseStop.NoMemory
         → IsSilent result.status (O.taken output.old) (O.taken output.new)
         ⊎ Wrote Status.Refused (refusal_line stop) result.status (O.taken output.old) (O.taken output.new) }
@@ -66,6 +69,7 @@ pub(crate) fn refuse<O: Sink>(alloc: Global, output: &mut O, stop: CaseStop) -> 
 // Tells a refusal other than want of memory, by a line that is put together.
 fn refuse_with<O: Sink>(alloc: Global, output: &mut O, stop: CaseStop) -> Answer
     ensures closed { result.closed ≡ None }
+    ensures world { result.world ≡ None }
     ensures wrote { IsSilent result.status (O.taken output.old) (O.taken output.new)
         ⊎ Wrote Status.Refused (refusal_line stop) result.status (O.taken output.old) (O.taken output.new) }
     ensures refused { result.status ≢ Status.Done }
@@ -84,6 +88,7 @@ fn refuse_with<O: Sink>(alloc: Global, output: &mut O, stop: CaseStop) -> Answer
 /// memory could not be had for the line.
 pub(crate) fn refuse_tape<O: Sink>(alloc: Global, output: &mut O, cause: TapeCause) -> Answer
     ensures closed { result.closed ≡ None }
+    ensures world { result.world ≡ None }
     ensures ends { EndsFor cause result.status (O.taken output.old) (O.taken output.new) }
     ensures refused { result.status ≢ Status.Done }
     ensures read { result.status ≢ Status.ReadFault }

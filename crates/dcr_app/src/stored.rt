@@ -63,6 +63,7 @@ pub(crate) fn run_over<
         B.Link.Rest.failed_reads B.Link.Rest.failed_writes)
         way result.closed door result.door result.ends.items result.status }
     ensures report { result.status ≡ Status.Done → WroteReport (O.taken output.old) (O.taken output.new) result.closed }
+    ensures world { result.world ≡ None }
     ensures no_read_fault { result.status ≢ Status.ReadFault }
     ensures accepted { result.status ≢ Status.Refused }
     ensures counted { result.status ≡ Status.WriteFault → Rose (O.write_faults output.old) (O.write_faults output.new) }
@@ -106,6 +107,7 @@ fn by_workers<
         result.status result.closed }
     ensures door { IsUnasked door result.door result.ends.items }
     ensures report { result.status ≡ Status.Done → WroteReport (O.taken output.old) (O.taken output.new) result.closed }
+    ensures world { result.world ≡ None }
     ensures no_read_fault { result.status ≢ Status.ReadFault }
     ensures accepted { result.status ≢ Status.Refused }
     ensures counted { result.status ≡ Status.WriteFault → Rose (O.write_faults output.old) (O.write_faults output.new) }
@@ -134,6 +136,7 @@ fn by_workers<
                 door,
                 disk: disk_of(store),
                 ends: Vec::new(alloc),
+                world: None,
             }
         }
         Err(OpenRefused { cause, store }) => {
@@ -175,6 +178,7 @@ fn over_links<
         B.Link.Rest.failed_reads B.Link.Rest.failed_writes)
         sessions result.closed door result.door result.ends.items result.status }
     ensures report { result.status ≡ Status.Done → WroteReport (O.taken output.old) (O.taken output.new) result.closed }
+    ensures world { result.world ≡ None }
     ensures no_read_fault { result.status ≢ Status.ReadFault }
     ensures accepted { result.status ≢ Status.Refused }
     ensures counted { result.status ≡ Status.WriteFault → Rose (O.write_faults output.old) (O.write_faults output.new) }
@@ -212,6 +216,7 @@ fn over_links<
                 door,
                 disk: disk_of(store),
                 ends,
+                world: None,
             }
         }
         Err(CaseUnserved { refused, door }) => {
@@ -242,8 +247,8 @@ fn cause_of(cause: OpenCause) -> TapeCause
     }
 }
 
-// Writes the report of a run, which is due with this status.
-fn report<O: Sink>(
+/// Writes the report of a run, which is due with this status.
+pub(crate) fn report<O: Sink>(
     alloc: Global,
     case: &Case,
     closed: &Closed,

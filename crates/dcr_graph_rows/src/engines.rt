@@ -47,10 +47,9 @@ fn waiting(
     requires event { event < 4 }
 {
     let projection = project(alloc, graph, own)?;
-    let hears = projection.alphabet().contains(EventId(0));
     let mut site = Site::open(projection, &opening());
     let before = site.first_waiting();
-    if !hears {
+    if !site.hears(EventId(0)) {
         return Ok((before, None, None));
     }
     site.apply(EventId(0));

@@ -47,7 +47,14 @@ fn a_journal_tells_what_it_has(rt: HostRuntime) -> Result<(), Fail> {
             })
         )
     );
-    let last = journal.last();
+    let copy = journal.copy(rt.alloc())?;
+    same(
+        &rt,
+        &(copy.len(), copy.spare()),
+        &(2, 0),
+        "a copy of a full one",
+    );
+    let last = copy.last();
     assert!(rt; !journal.is_empty() && journal.get(2).is_none());
     assert!(rt;
         matches!(

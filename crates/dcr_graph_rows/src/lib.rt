@@ -1,4 +1,5 @@
-//! Worked rows of graphs, nests, projections, the engines, journals and lines that no whole case or report shows.
+//! Worked rows of graphs, nests, projections, the engines, journals, lines, messages and event logs that no whole case or
+//! report shows.
 #![tactic(auto)]
 
 #[cfg(test)]
@@ -14,6 +15,8 @@ mod laws;
 #[cfg(test)]
 mod line;
 #[cfg(test)]
+mod logs;
+#[cfg(test)]
 mod names;
 #[cfg(test)]
 mod nest;
@@ -23,3 +26,5 @@ mod proj;
 mod same;
 #[cfg(test)]
 mod stops;
+#[cfg(test)]
+mod wire;

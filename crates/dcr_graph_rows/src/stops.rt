@@ -1,5 +1,6 @@
-// Why there is no name, label, graph, cover or report, in words.
+// Why there is no name, label, graph, cover, report or log, in words.
 use crate::same::same_text;
+use dcr_conform::LogStop;
 use dcr_cover::CoverStop;
 use dcr_graph::{GraphStop, Label, LabelStop, Name, NameStop};
 use dcr_report::ReportStop;
@@ -15,7 +16,7 @@ fn stops_say_why(rt: HostRuntime) -> Result<(), Fail> {
     let no_name = Name::read(alloc, "p m").err();
     let (a, b) = (EventId(1), EventId(2));
     let said = format!(in alloc;
-        "{:?}\n{:?}\n{}\n{}\n{}\n{}\n{}\n{}\n{}\n{}\n{}\n{}\n{}\n{}",
+        "{:?}\n{:?}\n{}\n{}\n{}\n{}\n{}\n{}\n{}\n{}\n{}\n{}\n{}\n{}\n{}\n{}",
         no_name,
         no_label,
         NameStop::NotName,
@@ -29,7 +30,9 @@ fn stops_say_why(rt: HostRuntime) -> Result<(), Fail> {
         CoverStop::Uncovered { a: EventId(7) },
         CoverStop::NoMemory,
         ReportStop::WriteFault,
-        ReportStop::NoMemory
+        ReportStop::NoMemory,
+        LogStop::Bad { row: 3 },
+        LogStop::NoMemory
     )?;
     let wanted = "Some(NotName)
 Some(Long)
@@ -44,6 +47,8 @@ owned text 5 of site 3 is no event's name
 no site owns an atom
 out of memory
 the output failed
+out of memory
+a record that is none of a log
 out of memory";
     same_text(&rt, said.as_str(), wanted, "stops");
     Ok(())

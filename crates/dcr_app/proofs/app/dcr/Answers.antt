@@ -1,21 +1,22 @@
-use Rattle.std.proofs.Common.{◌≡◌, ◌⊎◌, ℕ, Bool, Option, Some, IfSome, inl, inr, ap, subst, sym, ◌∙◌}
+use Rattle.std.proofs.Common.{◌≡◌, ◌⊎◌, ℕ, Bool, false, Option, Some, IfSome, inl, inr, ap, subst, sym, ◌∙◌}
 use Rattle.dcr_base.specs.Count.{Rose}
 use Rattle.dcr_base.specs.declared.status.Status.{Status}
-use Rattle.dcr_base.specs.declared.status.Status.TheVariants.{Done, DoorFault, Invalid, NoMemory, Usage, WriteFault}
+use Rattle.dcr_base.specs.declared.status.Status.TheVariants.{Done, DoorFault, Invalid, NoMemory, Refused, Usage, WriteFault}
 use Rattle.dcr_json.specs.Case.{case_in}
-use Rattle.dcr_app.specs.Answers.{EndsRun, EndsServing, IsAnsweredCase, IsAnsweredReport, IsServing, IsToldByOne, SaysInvalid, SaysValid}
+use Rattle.dcr_app.specs.Answers.{EndsRun, EndsServing, IsAnsweredCase, IsAnsweredReport, IsServing, IsToldByOne, Refuses, RefusesCase, SaysInvalid, SaysValid}
 use Rattle.dcr_app.specs.Command.{command_in}
 use Rattle.dcr_app.specs.Telling.{LeavesDoor, Telling, by_workers, doors_of, over_links}
 use Rattle.dcr_app.specs.declared.command.Command.{Command}
-use Rattle.dcr_app.specs.declared.command.Command.TheVariants.{Run, Serve}
+use Rattle.dcr_app.specs.declared.command.Command.TheVariants.{Replay, Run, Serve}
 use Rattle.dcr_app.specs.declared.app.End.{End}
+use Rattle.dcr_app.proofs.ApartLemmas.{EndsApart, answered_apart, apart_ends, refuses_apart}
 use Rattle.dcr_app.proofs.CommandLemmas.{one_run, one_serving}
 use Rattle.dcr_app.proofs.FaultlessLemmas.{answered_case}
 use Rattle.dcr_app.proofs.LinksLemmas.{door_by, full_by, full_told, left_by, no_fewer_by, unasked_by}
-use Rattle.dcr_app.proofs.ReplayLemmas.{answered_report, says_invalid, says_valid}
+use Rattle.dcr_app.proofs.ReplayLemmas.{answered_report, refuses_report, says_invalid, says_valid}
 use Rattle.dcr_app.proofs.RunLemmas.{done_throughout, told_by_one}
 use Rattle.dcr_app.proofs.TapeLemmas.{still_same}
-use Rattle.dcr_app.proofs.app.dcr.Goals.{in-None, in-Some-Load, in-Some-Replay}
+use Rattle.dcr_app.proofs.app.dcr.Goals.{in-None, in-Some-Load, in-Some-Nodes, in-Some-Replay}
 use Rattle.dcr_app.proofs.app.dcr.Goals as goal
 
 -- a run is never told as one whose door failed
@@ -146,7 +147,18 @@ no_verdict status (inr (inl is)) invalid = absurd cc
 no_verdict status (inr (inr (inl is))) invalid = absurd cc
 no_verdict status (inr (inr (inr is))) invalid = absurd cc
 
--- a command that runs no case of a file ends as its own answer tells
+never_invalid : (status : Status) → status ≡ Invalid → EndsApart status → ⊥
+never_invalid status is ends = elim (subst EndsApart is ends) [ ]
+
+no_refusal : (status : Status) → ((status ≡ Usage) ⊎ (status ≡ WriteFault)) ⊎ ((status ≡ Done) ⊎ ((status ≡ WriteFault) ⊎ (status ≡ NoMemory)))
+    → status ≡ Refused → ⊥
+no_refusal status (inl (inl is)) refused = absurd cc
+no_refusal status (inl (inr is)) refused = absurd cc
+no_refusal status (inr (inl is)) refused = absurd cc
+no_refusal status (inr (inr (inl is))) refused = absurd cc
+no_refusal status (inr (inr (inr is))) refused = absurd cc
+
+-- a command that executes no case over locks or links ends as its own answer tells
 ended : (g : _) (c : goal.Joined-drop g) → c.over.result.status ≡ c.match-command_of.answer.0.status
 ended g c = ap (λ (e : End _ _ _ _). e.status) c.over.ensures
 
@@ -155,6 +167,7 @@ handed : (g : _) (c : goal.Joined-drop g) → c.over.result.disk ≡ c.args.disk
 handed g c = ap (λ (e : End _ _ _ _). e.disk) c.over.ensures ∙ elim c.match-command_of.branch [
   | in-Some-Replay w ↦ ap (λ answer. answer.1) w.answer-is
   | in-Some-Load w ↦ ap (λ answer. answer.1) w.answer-is ∙ w.load.ensures.disk
+  | in-Some-Nodes w ↦ ap (λ answer. answer.1) w.answer-is
   | in-None w ↦ ap (λ answer. answer.1) w.answer-is
 ]
 
@@ -169,6 +182,7 @@ returns-clause-valid g c = λ replays done. elim c.match-command_of.branch [
       (says_valid (g.I.Source.left c.args.input.now) (g.O.Sink.taken c.args.output.now) (g.O.Sink.taken w.replay.new.output) w.replay.result.status
       w.valid_is_report.ensures status w.replay.ensures.answers)
   | in-Some-Load w ↦ absurd (let spelled = c.command_of.ensures.spelled in let is = w.in-Some-Load.is in let load = w.in-Some-Load.field-0-is in cc)
+  | in-Some-Nodes w ↦ absurd (let spelled = c.command_of.ensures.spelled in let is = w.in-Some-Nodes.is in let nodes = w.in-Some-Nodes.field-0-is in cc)
   | in-None w ↦ absurd (let spelled = c.command_of.ensures.spelled in let is = w.in-None.is in cc)
 ]
 
@@ -180,6 +194,9 @@ returns-clause-invalid g c = λ invalid. elim c.match-command_of.branch [
       (says_invalid (g.I.Source.left c.args.input.now) (g.O.Sink.taken c.args.output.now) (g.O.Sink.taken w.replay.new.output) w.replay.result.status
       w.valid_is_report.ensures w.a_text_has_one_verdict.ensures w.the_first_wrong_line_is_told.ensures status w.replay.ensures.answers)
   | in-Some-Load w ↦ absurd (no_verdict _ (inr w.load.ensures.ends) (sym (ap (λ answer. answer.0.status) w.answer-is) ∙ (sym (ended g c) ∙ invalid)))
+  | in-Some-Nodes w ↦ absurd (never_invalid w.apart.result.status (sym (ap (λ answer. answer.0.status) w.answer-is) ∙ (sym (ended g c) ∙ invalid))
+      (apart_ends (g.I.Source.left c.args.input.now) (g.I.Source.has_ended w.apart.new.input) (g.O.Sink.taken c.args.output.now) (g.O.Sink.taken w.apart.new.output) w.apart.result.status w.apart.result.closed
+      w.apart.result.world w.apart.ensures.answers))
   | in-None w ↦ absurd (no_verdict _ (inl w.say.ensures.status) (sym (ap (λ answer. answer.0.status) w.answer-is) ∙ (sym (ended g c) ∙ invalid)))
 ]
 
@@ -193,5 +210,38 @@ returns-clause-checked g c = λ replays reads writes. elim c.match-command_of.br
       (λ is. writes (subst (λ o. Rose (g.O.Sink.write_faults c.args.output.now) (g.O.Sink.write_faults o)) (sym w.output-is) (w.replay.ensures.write_counted is)))
       w.replay.ensures.answers)
   | in-Some-Load w ↦ absurd (let spelled = c.command_of.ensures.spelled in let is = w.in-Some-Load.is in let load = w.in-Some-Load.field-0-is in cc)
+  | in-Some-Nodes w ↦ absurd (let spelled = c.command_of.ensures.spelled in let is = w.in-Some-Nodes.is in let nodes = w.in-Some-Nodes.field-0-is in cc)
   | in-None w ↦ absurd (let spelled = c.command_of.ensures.spelled in let is = w.in-None.is in cc)
 ]
+
+pub returns-clause-apart : goal.returns-clause-apart
+returns-clause-apart g c = λ number is reads writes. elim c.match-command_of.branch [
+  | in-Some-Nodes w ↦
+      let left = g.I.Source.left c.args.input.now in
+      subst (λ (s : Status). IfSome left (λ bytes. IsAnsweredCase EndsRun false (g.D.Disk.view c.args.disk) (case_in bytes) s)) (sym (ended g c ∙ ap (λ answer. answer.0.status) w.answer-is))
+      (answered_apart w.when_each_refusal_comes-in-Some-Nodes.ensures.cases (g.D.Disk.view c.args.disk) left (g.I.Source.has_ended w.apart.new.input) (g.O.Sink.taken c.args.output.now)
+      (g.O.Sink.taken w.apart.new.output) w.apart.result.status w.apart.result.closed w.apart.result.world
+      (λ e. reads (subst (λ i. Rose (g.I.Source.read_faults c.args.input.now) (g.I.Source.read_faults i)) (sym w.input-is) (w.apart.ensures.read_counted e)))
+      (λ e. writes (subst (λ o. Rose (g.O.Sink.write_faults c.args.output.now) (g.O.Sink.write_faults o)) (sym w.output-is) (w.apart.ensures.write_counted e)))
+      w.apart.ensures.answers)
+  | in-Some-Replay w ↦ absurd (let spelled = c.command_of.ensures.spelled in let it = w.in-Some-Replay.is in let replay = w.in-Some-Replay.field-0-is in cc)
+  | in-Some-Load w ↦ absurd (let spelled = c.command_of.ensures.spelled in let it = w.in-Some-Load.is in let load = w.in-Some-Load.field-0-is in cc)
+  | in-None w ↦ absurd (let spelled = c.command_of.ensures.spelled in let it = w.in-None.is in cc)
+]
+
+pub returns-clause-refused : goal.returns-clause-refused
+returns-clause-refused g c = λ refused.
+    let left = g.I.Source.left c.args.input.now in let had = g.O.Sink.taken c.args.output.now in
+    elim c.match-command_of.branch [
+      | in-Some-Nodes w ↦
+          subst (λ (command : Option Command). Refuses command left had (g.O.Sink.taken c.match-command_of.output)) (sym (sym c.command_of.ensures.spelled ∙ (w.in-Some-Nodes.is ∙ ap Some w.in-Some-Nodes.field-0-is)))
+          (subst (λ o. RefusesCase left had (g.O.Sink.taken o)) (sym w.output-is)
+          (refuses_apart left (g.I.Source.has_ended w.apart.new.input) had (g.O.Sink.taken w.apart.new.output) w.apart.result.status w.apart.result.closed w.apart.result.world w.apart.ensures.answers
+          (sym (ap (λ answer. answer.0.status) w.answer-is) ∙ (sym (ended g c) ∙ refused))))
+      | in-Some-Replay w ↦
+          subst (λ (command : Option Command). Refuses command left had (g.O.Sink.taken c.match-command_of.output)) (sym (sym c.command_of.ensures.spelled ∙ (w.in-Some-Replay.is ∙ ap Some w.in-Some-Replay.field-0-is)))
+          (subst (λ o. Refuses (Some Replay) left had (g.O.Sink.taken o)) (sym w.output-is)
+          (refuses_report left had (g.O.Sink.taken w.replay.new.output) w.replay.result.status (sym (ap (λ answer. answer.0.status) w.answer-is) ∙ (sym (ended g c) ∙ refused)) w.replay.ensures.answers))
+      | in-Some-Load w ↦ absurd (no_refusal _ (inr w.load.ensures.ends) (sym (ap (λ answer. answer.0.status) w.answer-is) ∙ (sym (ended g c) ∙ refused)))
+      | in-None w ↦ absurd (no_refusal _ (inl w.say.ensures.status) (sym (ap (λ answer. answer.0.status) w.answer-is) ∙ (sym (ended g c) ∙ refused)))
+    ]

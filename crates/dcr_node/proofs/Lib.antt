@@ -1,0 +1,10 @@
+pub mod HeardLemmas
+pub mod TruthLemmas
+pub mod RightLemmas
+pub mod KeptLemmas
+pub mod BeginningLemmas
+pub mod SiteNodeLemmas
+pub mod JournalLemmas
+pub mod PartsLemmas
+pub mod WorldLemmas
+pub mod LawLemmas

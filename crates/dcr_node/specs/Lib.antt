@@ -1,0 +1,15 @@
+pub mod Heard
+pub mod SiteState
+pub mod SiteNodeModel
+pub mod JournalState
+pub mod StreamValue
+pub mod StreamModel
+pub mod Streams
+pub mod JournalNodeModel
+pub mod WorldState
+pub mod Machine
+pub mod Right
+pub mod Parts
+pub mod WorldModel
+pub mod Closing
+pub mod Laws

@@ -1,0 +1,3 @@
+pub mod PlayingLemmas
+pub mod HearingLemmas
+pub mod ApartLemmas

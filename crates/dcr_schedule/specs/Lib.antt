@@ -1,0 +1,3 @@
+pub mod Executions
+pub mod Playing
+pub mod Apart
