@@ -8,9 +8,9 @@ pub(crate) fn same<T: PartialEq + Debug>(rt: &impl Abort, got: &T, want: &T, row
 }
 
 pub(crate) fn same_bytes(rt: &impl Abort, got: &[u8], want: &[u8], row: &str) {
-    assert_eq!(rt; got, want, "{row}");
+    same(rt, &got, &want, row);
 }
 
 pub(crate) fn same_text(rt: &impl Abort, got: &str, want: &str, row: &str) {
-    assert_eq!(rt; got, want, "{row}");
+    same(rt, &got, &want, row);
 }
