@@ -283,23 +283,99 @@ def certificate(folder, name, subject):
                 file.write(part.read())
 
 
+def needs(*programs):
+    """Their paths, where all of them are installed."""
+    found = [shutil.which(it, path=os.environ.get("PATH", os.defpath) + ":/usr/sbin") for it in programs]
+    if None in found:
+        raise NotTried("%s is not on the path" % programs[found.index(None)])
+    return found
+
+
+def typed(start):
+    """The lines of the guide that begin so."""
+    return re.findall(r"^%s.*$" % re.escape(start), read("docs/GUIDE.md").decode(), re.M)
+
+
+@contextlib.contextmanager
+def front(command, port, cwd=None):
+    """What stands before the program, from when it listens on."""
+    process = subprocess.Popen(command, cwd=cwd, stderr=subprocess.DEVNULL)
+    try:
+        for _ in range(400):
+            if listens(port):
+                break
+            time.sleep(0.05)
+        yield
+    finally:
+        process.kill()
+        process.wait()
+
+
+def listens(port):
+    """Whether somebody listens there. (A connection to a front would be a session.)"""
+    with open("/proc/net/tcp", encoding="ascii") as file:
+        return any(it.split()[1].endswith(":%04X" % port) and it.split()[3] == "0A" for it in file.readlines()[1:])
+
+
+def asked(port, *lines):
+    """What one connection to the port is answered to these lines, till it is ended."""
+    with socket.create_connection(("127.0.0.1", port), timeout=60) as link:
+        got = b""
+        # (a front may have ended it by now)
+        with contextlib.suppress(OSError):
+            link.sendall(b"".join(it + b"\n" for it in lines))
+            link.shutdown(socket.SHUT_WR)
+            while more := link.recv(4096):
+                got += more
+        return got
+
+
+def check_a_front_for_a_trusted_network_keeps_others_out():
+    needs("socat")
+    line = typed("socat -T 300 TCP-LISTEN")[0].replace("bind=10.0.0.5", "bind=127.0.0.1")
+    with the_port(), Serving(1, 1) as serving:
+        with front(line.split(), 7412):
+            want(asked(7412, b"exec doctor pm") == b"", "one from another network is answered")
+        with front(line.replace("range=10.0.0.0/24", "range=127.0.0.0/24").split(), 7412):
+            want(asked(7412, b"exec doctor pm", b"accepting") == b"0 0 0 exec doctor pm done\n1 0 1 accepting waits s\n", "one of the network is answered otherwise")
+        status, report = serving.ended()
+        want(status == DONE and report.endswith(b"end 2\n"), "status %d and another report" % status)
+
+
+def check_whoever_can_log_in_asks_through_ssh():
+    sshd, _, keygen = needs("sshd", "ssh", "ssh-keygen")
+    (line,) = typed("ssh -N -L")
+    with the_port(), tempfile.TemporaryDirectory() as folder:
+        for name in ("host", "own"):
+            subprocess.run([keygen, "-q", "-t", "ed25519", "-N", "", "-f", os.path.join(folder, name)], check=True, timeout=60)
+        files = {
+            "sshd.conf": "Port 7414\nListenAddress 127.0.0.1\nHostKey {0}/host\nAuthorizedKeysFile {0}/own.pub\nStrictModes no\nUsePAM no\nPidFile none\n",
+            "ssh.conf": "Host the.machine\n  HostName 127.0.0.1\n  Port 7414\n  IdentityFile {0}/own\n  IdentitiesOnly yes\n  BatchMode yes\n  StrictHostKeyChecking no\n  UserKnownHostsFile {0}/known\n",
+        }
+        for name, text in files.items():
+            with open(os.path.join(folder, name), "w", encoding="ascii") as file:
+                file.write(text.format(folder))
+        if os.geteuid() == 0:
+            os.makedirs("/run/sshd", mode=0o755, exist_ok=True)
+        # (both ends are this machine, so that the near end has another port)
+        line = line.replace("-L 7411:", "-L 7413:").replace("ssh ", "ssh -F %s/ssh.conf " % folder)
+        with Serving(1, 1) as serving, front([sshd, "-D", "-f", os.path.join(folder, "sshd.conf")], 7414), front(line.split(), 7413):
+            want(asked(7413, b"exec doctor pm", b"exec nurse gm") == b"0 0 0 exec doctor pm done\n1 0 1 exec nurse gm condition s\n", "another answer")
+            status, report = serving.ended()
+            want(status == DONE and report.endswith(b"end 2\n"), "status %d and another report" % status)
+
+
 def check_a_front_with_certificates_keeps_strangers_out():
-    for name in ("socat", "openssl"):
-        if not shutil.which(name):
-            raise NotTried("%s is not on the path" % name)
-    front, client = re.findall(r"^socat .*OPENSSL.*$", read("docs/GUIDE.md").decode(), re.M)
+    needs("socat", "openssl")
+    stand, client = typed("socat -T 300 OPENSSL") + typed("socat -t 10 - OPENSSL")
     with the_port(), tempfile.TemporaryDirectory() as folder:
         for name, subject in [("server", "the.machine"), ("client", "nurse"), ("stranger", "stranger")]:
             certificate(folder, name, subject)
         os.rename(os.path.join(folder, "client.crt"), os.path.join(folder, "clients.crt"))
         with Serving(1, 1) as serving:
-            stands = subprocess.Popen(front.split(), cwd=folder, stderr=subprocess.DEVNULL)
-            try:
-                # (a scan, once it listens; a client without a certificate, and one with another)
-                for _ in range(400):
-                    with contextlib.suppress(ConnectionRefusedError), socket.create_connection(("127.0.0.1", 7412), timeout=60):
-                        break
-                    time.sleep(0.05)
+            with front(stand.split(), 7412, folder):
+                # (a scan, which is answered in TLS at most; a client without a certificate, and one with another)
+                want(b"done" not in asked(7412, b"exec doctor pm"), "a scan is answered")
                 own = client.replace("the.machine:7412", "127.0.0.1:7412,commonname=the.machine")
                 for other in (own.replace("cert=client.pem,", ""), own.replace("client.pem", "stranger.pem")):
                     ran = subprocess.run(other.split(), input=b"exec doctor pm\n", cwd=folder, stdout=subprocess.PIPE, stderr=subprocess.DEVNULL, timeout=120)
@@ -308,6 +384,3 @@ def check_a_front_with_certificates_keeps_strangers_out():
                 want(ran.stdout == b"0 0 0 exec doctor pm done\n1 0 1 exec nurse gm condition s\n", "the client is answered %s%s" % (ran.stdout, ran.stderr))
                 status, report = serving.ended()
                 want(status == DONE and report.endswith(b"end 2\n"), "status %d and another report" % status)
-            finally:
-                stands.kill()
-                stands.wait()
