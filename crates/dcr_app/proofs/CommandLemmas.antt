@@ -6,7 +6,7 @@ use Rattle.std.proofs.lemmas.Slice.Eq.{bytes_eq-Decides}
 use Rattle.dcr_set.proofs.LeastLemmas.{least-from, least-none_from}
 use Rattle.dcr_app.specs.Command.{number_in}
 use Rattle.dcr_app.specs.declared.command.Command.{Command}
-use Rattle.dcr_app.specs.declared.command.Command.TheVariants.{Run, Serve, Replay, Load, Nodes}
+use Rattle.dcr_app.specs.declared.command.Command.TheVariants.{Run, Serve, Replay, Load, Nodes, Conform, Adapt}
 
 -- two numbers have not one decimal form
 abbrev pub OneNumber : Type 0
@@ -56,6 +56,8 @@ numbers_by (Some (Serve sessions workers store)) = (sessions, workers, store)
 numbers_by (Some Replay) = (0, 0, false)
 numbers_by (Some (Load number)) = (0, 0, false)
 numbers_by (Some (Nodes number)) = (0, 0, false)
+numbers_by (Some Conform) = (0, 0, false)
+numbers_by (Some Adapt) = (0, 0, false)
 
 -- words spell one run
 pub one_run : (command : Option Command) (w workers : ℕ) (s store : Bool) → command ≡ Some (Run w s) → command ≡ Some (Run workers store) → (w ≡ workers) × (s ≡ store)

@@ -40,7 +40,7 @@ gone_on_from one none case content cause old (by_execution at is other there few
     bad_and_possible case old at (subst (λ l. IsFirstBad (cluster_in case l) at) same bad) possible
 
 -- a text that was due with this status was written, or memory ran out, where the output didn't fail
-due_or : (due : Status) (text : List ℕ) (status : Status) (had took : Option (List ℕ)) → (status ≡ WriteFault → ⊥) → Wrote due text status had took → IsOr due status
+pub due_or : (due : Status) (text : List ℕ) (status : Status) (had took : Option (List ℕ)) → (status ≡ WriteFault → ⊥) → Wrote due text status had took → IsOr due status
 due_or due text status had took writes wrote = elim (ends_as due text status had took wrote) [
   | inl e ↦ inl e
   | inr other ↦ elim other [

@@ -9,3 +9,5 @@ mod LoadLemmas
 mod FaultlessLemmas
 mod ReplayLemmas
 mod ApartLemmas
+mod ConformLemmas
+mod AdaptLemmas

@@ -33,15 +33,17 @@ use Rattle.dcr_replay.specs.Words.{word_of}
 use Rattle.dcr_replay.specs.declared.verdict.Verdict.{Verdict}
 use Rattle.dcr_replay.specs.declared.verdict.Verdict.TheVariants as verdict
 use Rattle.dcr_replay.specs.declared.verdict.Wrong.{Wrong}
+use Rattle.dcr_app.specs.Adapted.{AnswersStages, RefusesStages}
 use Rattle.dcr_app.specs.Headline.{Headline, cluster_in, digest_of, rules_in}
 use Rattle.dcr_app.specs.Loaded.{AnswersLoad}
+use Rattle.dcr_app.specs.Logged.{AnswersLog, RefusesInput}
 use Rattle.dcr_app.specs.Outside.{WereLeft, Wrote, IsSilent}
 use Rattle.dcr_app.specs.Refusal.{refusal_line}
 use Rattle.dcr_app.specs.Stored.{Keeps, RefusesTape, tape_line}
 use Rattle.dcr_app.specs.Telling.{Doors, Telling, by_workers, over_links}
 use Rattle.dcr_app.specs.declared.app.End.{End}
 use Rattle.dcr_app.specs.declared.command.Command.{Command}
-use Rattle.dcr_app.specs.declared.command.Command.TheVariants.{Run, Serve, Replay, Load, Nodes}
+use Rattle.dcr_app.specs.declared.command.Command.TheVariants.{Run, Serve, Replay, Load, Nodes, Conform, Adapt}
 
 -- ---- `run` and `serve`
 
@@ -236,8 +238,16 @@ IsReading None = ⊥
 IsReading (Some (Load number)) = ⊥
 IsReading (Some command) = Unit {0}
 
+-- whether the command writes one report of a run that it tells
+abbrev pub IsReporting : Option Command → Type 0
+IsReporting (Some (Run workers store)) = Unit {0}
+IsReporting (Some (Serve sessions workers store)) = Unit {0}
+IsReporting (Some (Nodes number)) = Unit {0}
+IsReporting command = ⊥
+
 -- What the program answers: words that are no command by the line `usage`; a case file by its run, that of its own sessions or
--- of those over links, or its refusal; a report by its verdict; a number by the run of its case. `doors` is what the door and its links tell, `before` is the
+-- of those over links, or its refusal; a report by its verdict; a number by the run of its case; a case with a log behind it by how
+-- each trace is judged; several cases by the reports of their runs, each of which goes on from the one before. `doors` is what the door and its links tell, `before` is the
 -- disk at entry and `door` the door. `left` is what the input had left at entry, where it tells that, and `has_ended` that it
 -- has come to its end; `had` is what the output had taken at entry, and `took` what it has taken now, where it tells that.
 abbrev pub Answers : {D B L R : Type 0} → (D → DiskView) → (D → ℕ) → Doors B L R → Option Command → B → D → Option (List ℕ) → Type 0 → Option (List ℕ) → Option (List ℕ) → End B D L R → Type 0
@@ -249,19 +259,23 @@ Answers view faults doors (Some (Serve sessions workers store)) door before left
 Answers view faults doors (Some Replay) door before left has_ended had took end = (end.closed ≡ None) × AnswersReport left had took end.status
 Answers view faults doors (Some (Load number)) door before left has_ended had took end = AnswersLoad number had took end.status end.closed
 Answers view faults doors (Some (Nodes number)) door before left has_ended had took end = AnswersApart left has_ended had took end.status end.closed end.world
+Answers view faults doors (Some Conform) door before left has_ended had took end = (end.closed ≡ None) × AnswersLog left has_ended had took end.status
+Answers view faults doors (Some Adapt) door before left has_ended had took end = AnswersStages left has_ended had took end.status end.closed
 
 -- the line that was written says why the bytes that were read are no case
 abbrev pub RefusesCase : Option (List ℕ) → Option (List ℕ) → Option (List ℕ) → Type 0
 RefusesCase left had took = (bytes : List ℕ) × WereLeft left bytes
     × ((why : CaseStop) × (case_in bytes ≡ Err why) × (why ≢ stop.NoMemory) × Appends had took (refusal_line why))
 
--- The line that was written says why the input is refused: the first refusal of a case that holds, or that a report has
--- too many bytes. Words that are no command, and a number, refuse nothing.
+-- The line that was written says why the input is refused: the first refusal of a case, or of a case and the log behind it,
+-- that holds, or that a report has too many bytes. Words that are no command, and a number, refuse nothing.
 abbrev pub Refuses : Option Command → Option (List ℕ) → Option (List ℕ) → Option (List ℕ) → Type 0
 Refuses None left had took = ⊥
 Refuses (Some (Load number)) left had took = ⊥
 Refuses (Some (Run workers store)) left had took = RefusesCase left had took
 Refuses (Some (Serve sessions workers store)) left had took = RefusesCase left had took
 Refuses (Some (Nodes number)) left had took = RefusesCase left had took
+Refuses (Some Conform) left had took = RefusesInput left had took
+Refuses (Some Adapt) left had took = RefusesStages left had took
 Refuses (Some Replay) left had took =
     IfSome left (λ bytes. 268435456 < length bytes) × Appends had took (refusal_line stop.TooLong)

@@ -4,7 +4,7 @@ use Rattle.std.specs.Str.{bytes_eq}
 use Rattle.std.specs.declared.alloc.Global.{Global}
 use Rattle.dcr_set.specs.Least.{least}
 use Rattle.dcr_app.specs.declared.command.Command.{Command}
-use Rattle.dcr_app.specs.declared.command.Command.TheVariants.{Run, Serve, Replay, Load, Nodes}
+use Rattle.dcr_app.specs.declared.command.Command.TheVariants.{Run, Serve, Replay, Load, Nodes, Conform, Adapt}
 use Rattle.dcr_app.specs.declared.way.Way.{Way}
 use Rattle.dcr_app.specs.declared.way.Way.TheVariants as way
 
@@ -78,6 +78,16 @@ abbrev pub nodes_with : List (List ℕ) → Option Command
 nodes_with (number ∷ []) = nodes_by (load_in number)
 nodes_with words = None
 
+-- nothing may stand behind `conform`
+abbrev pub conform_with : List (List ℕ) → Option Command
+conform_with [] = Some Conform
+conform_with words = None
+
+-- nothing may stand behind `adapt`
+abbrev pub adapt_with : List (List ℕ) → Option Command
+adapt_with [] = Some Adapt
+adapt_with words = None
+
 -- the command that these texts spell
 abbrev pub command_spelled : List (List ℕ) → Option Command
 command_spelled [] = None
@@ -86,7 +96,9 @@ command_spelled (word ∷ rest) =
     else (if bytes_eq word (codes "serve") then serve_with rest
     else (if bytes_eq word (codes "replay") then replay_with rest
     else (if bytes_eq word (codes "load") then load_with rest
-    else (if bytes_eq word (codes "nodes") then nodes_with rest else None))))
+    else (if bytes_eq word (codes "nodes") then nodes_with rest
+    else (if bytes_eq word (codes "conform") then conform_with rest
+    else (if bytes_eq word (codes "adapt") then adapt_with rest else None))))))
 
 abbrev pub command_in : List (String Global) → Option Command
 command_in words = command_spelled (map string_bytes words)
@@ -104,6 +116,8 @@ HasNumbers (Serve sessions workers store) = AreSessions sessions × AreWorkers w
 HasNumbers Replay = Unit {0}
 HasNumbers (Load number) = Unit {0}
 HasNumbers (Nodes number) = Unit {0}
+HasNumbers Conform = Unit {0}
+HasNumbers Adapt = Unit {0}
 
 abbrev pub IsWay : Way → Type 0
 IsWay (way.Run workers) = AreWorkers workers

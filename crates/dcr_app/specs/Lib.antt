@@ -1,7 +1,9 @@
+pub mod Adapted
 pub mod Answers
 pub mod Command
 pub mod Headline
 pub mod Loaded
+pub mod Logged
 pub mod Outside
 pub mod Stored
 pub mod Telling

@@ -4,7 +4,7 @@ use Rattle.std.specs.Io.KnownBytes.{Appends}
 use Rattle.dcr_base.specs.declared.status.Status.{Status}
 use Rattle.dcr_base.specs.declared.status.Status.TheVariants.{Done, Usage, Refused, ReadFault, WriteFault, NoMemory, DiskFault, Invalid, Full, TapeRefused, DoorFault}
 use Rattle.dcr_app.specs.declared.command.Command.{Command}
-use Rattle.dcr_app.specs.declared.command.Command.TheVariants.{Run, Serve, Replay, Load, Nodes}
+use Rattle.dcr_app.specs.declared.command.Command.TheVariants.{Run, Serve, Replay, Load, Nodes, Conform, Adapt}
 
 -- ---- what was read
 
@@ -24,6 +24,8 @@ most_read (Some (Serve sessions workers store)) = 16777217
 most_read (Some Replay) = 268435457
 most_read (Some (Load number)) = 0
 most_read (Some (Nodes number)) = 16777217
+most_read (Some Conform) = 16777217
+most_read (Some Adapt) = 16777217
 
 -- ---- what was written
 

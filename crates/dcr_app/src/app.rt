@@ -2,15 +2,19 @@ ghost use Rattle.std.specs.Prelude.{◌≡◌, ◌≢◌, ◌⊎◌, ◌≤◌, 
 ghost use Rattle.std.specs.Io.KnownBytes.{IsAtEnd};
 ghost use Rattle.dcr_base.specs.Count.{Rose};
 ghost use Rattle.dcr_json.specs.Case.{case_in};
-ghost use Rattle.dcr_app.specs.Answers.{Answers, EndsRun, EndsServing, IsApart, IsAnsweredCase, IsAnsweredReport, IsDoneThroughout, IsOr, IsReading, IsServing, IsStored, IsTapeRefused, IsToldByOne, Refuses, SaysInvalid, SaysValid, WroteReport};
+ghost use Rattle.dcr_app.specs.Adapted.{IsAnsweredStages, WroteReports};
+ghost use Rattle.dcr_app.specs.Answers.{Answers, EndsRun, EndsServing, IsApart, IsAnsweredCase, IsAnsweredReport, IsDoneThroughout, IsOr, IsReading, IsReporting, IsServing, IsStored, IsTapeRefused, IsToldByOne, Refuses, SaysInvalid, SaysValid, WroteReport};
 ghost use Rattle.dcr_app.specs.Command.{command_in};
+ghost use Rattle.dcr_app.specs.Logged.{IsAnsweredLog};
 ghost use Rattle.dcr_app.specs.Outside.{TookAtMost, most_read};
 ghost use Rattle.dcr_app.specs.Stored.{StandsStill};
 ghost use Rattle.dcr_app.specs.Telling.{IsUnasked, LeavesDoor, doors_of};
-ghost use Rattle.dcr_app.specs.declared.command.Command.TheVariants.{Run, Serve, Replay, Load, Nodes};
+ghost use Rattle.dcr_app.specs.declared.command.Command.TheVariants.{Run, Serve, Replay, Load, Nodes, Conform, Adapt};
 
+use crate::adapt::adapt;
 use crate::apart::apart;
 use crate::command::{Command, command_of};
+use crate::conform::conform;
 use crate::load::load;
 use crate::replay::replay;
 use crate::run::run;
@@ -59,9 +63,10 @@ pub struct End<B: Door, D> {
 /// wrong one. `load` reads nothing: it makes the case of its number, runs it by one worker, and writes one line about that run.
 /// `nodes` reads a case file as `run` does, runs its executions, and no other call, at sites that talk by messages alone, over
 /// a network that loses, repeats and reorders them as its number picks, and writes the report, which is the same for every
-/// number.
+/// number. `conform` reads a case file, which is its first line, and an event log behind it, judges each trace of the log by the
+/// plain engine of the whole graph, and writes one line for each in order of first appearance, and then how many there are.
 /// Other words are answered by the line `usage`. A file that is no case, and a report of more than 268,435,456
-/// bytes, is refused by one line that tells why, and so is a disk that isn't empty and isn't a tape of the case that can be
+/// bytes, is refused by one line that tells why, and so is a log with a bad record, and a disk that isn't empty and isn't a tape of the case that can be
 /// gone on from.
 ///
 /// `Done` comes where the report, `valid` or the line of `load` was written, `Invalid` where `invalid` was, `Usage`, `Refused` and
@@ -123,7 +128,7 @@ pub fn dcr<
     ensures tape_refused { result.status ≡ Status.TapeRefused → IsStored (command_in words.now)
         × IsTapeRefused (D.view disk) (D.view result.disk) (I.left input.old) (O.taken output.old) (O.taken output.new) Status.TapeRefused }
 
-    ensures report { IsReading (command_in words.now) → result.status ≡ Status.Done
+    ensures report { IsReporting (command_in words.now) → result.status ≡ Status.Done
         → WroteReport (O.taken output.old) (O.taken output.new) result.closed }
     ensures converse { (workers : ℕ) (store : Bool) → command_in words.now ≡ Some (Run workers store)
         → IsToldByOne workers (I.left input.old) result.closed × IsDoneThroughout (I.left input.old) result.closed }
@@ -161,6 +166,15 @@ pub fn dcr<
         → (Rose (I.read_faults input.old) (I.read_faults input.new) → ⊥)
         → (Rose (O.write_faults output.old) (O.write_faults output.new) → ⊥)
         → IfSome (I.left input.old) (λ bytes. IsAnsweredCase EndsRun false (D.view disk) (case_in bytes) result.status) }
+    ensures conformed { command_in words.now ≡ Some Conform
+        → (Rose (I.read_faults input.old) (I.read_faults input.new) → ⊥)
+        → (Rose (O.write_faults output.old) (O.write_faults output.new) → ⊥)
+        → IfSome (I.left input.old) (λ bytes. IsAnsweredLog bytes result.status) }
+    ensures adapted { command_in words.now ≡ Some Adapt
+        → (Rose (I.read_faults input.old) (I.read_faults input.new) → ⊥)
+        → (Rose (O.write_faults output.old) (O.write_faults output.new) → ⊥)
+        → IfSome (I.left input.old) (λ bytes. IsAnsweredStages bytes result.status) }
+    ensures reports { command_in words.now ≡ Some Adapt → result.status ≡ Status.Done → WroteReports (O.taken output.old) (O.taken output.new) }
     ensures no_world { ¬ IsApart (command_in words.now) → result.world ≡ None }
     ensures untold { result.closed ≡ None → result.world ≡ None }
 
@@ -206,6 +220,12 @@ pub fn dcr<
             when_each_refusal_comes();
             (apart(alloc, number, input, output), disk)
         }
+        Some(Command::Conform) => {
+            // What the first line says, for the clause on `conform`.
+            when_each_refusal_comes();
+            (conform(rt, alloc, input, output), disk)
+        }
+        Some(Command::Adapt) => adapt(rt, alloc, input, output, disk, gate),
     };
     answer.over(door, disk, Vec::new(alloc))
 }

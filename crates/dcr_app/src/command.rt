@@ -28,6 +28,10 @@ pub enum Command {
     Nodes {
         number: u32,
     },
+    /// Judge each trace of an event log by the whole graph of the case before it.
+    Conform,
+    /// Run several cases one after the other, each from where the one before it ended, and write their reports.
+    Adapt,
 }
 
 // The most workers, and the most sessions that are served.
@@ -57,6 +61,12 @@ pub(crate) fn command_of(words: &[String]) -> Option<Command>
     }
     if word.as_str() == "nodes" {
         return nodes_of(rest);
+    }
+    if word.as_str() == "conform" && rest.is_empty() {
+        return Some(Command::Conform);
+    }
+    if word.as_str() == "adapt" && rest.is_empty() {
+        return Some(Command::Adapt);
     }
     None
 }

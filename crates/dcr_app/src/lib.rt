@@ -1,11 +1,14 @@
-//! The top call: a case file in, its report out, with its own sessions or with others over links; or a report in, its verdict
-//! out.
+//! The top call: a case file in, its report out, with its own sessions or with others over links; a report in, its verdict
+//! out; or a case and an event log in, how each trace is judged out; or several cases in, each of which goes on from the one before,
+//! and their reports out.
 #![tactic(auto)]
 
+mod adapt;
 mod answer;
 mod apart;
 mod app;
 mod command;
+mod conform;
 mod lines;
 mod load;
 mod refusal;

@@ -14,3 +14,10 @@ pub struct OpenGate;
 impl Gate for OpenGate {
     fn at<R: Wait>(&self, _: &R, _: u32, _: u32) {}
 }
+
+/// A gate behind a reference, so that one gate serves several clusters, or can be asked afterwards.
+impl<G: Gate> Gate for &G {
+    fn at<R: Wait>(&self, rt: &R, session: u32, seq: u32) {
+        G::at(self, rt, session, seq);
+    }
+}

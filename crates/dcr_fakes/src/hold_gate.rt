@@ -15,8 +15,8 @@ pub struct Hold {
     pub turns: u64,
 }
 
-/// A [`Gate`] that holds one call or two, and notes whether they waited all their turns. A reference to it is a gate too,
-/// so that it can be asked afterwards. Nothing is promised of it.
+/// A [`Gate`] that holds one call or two, and notes whether they waited all their turns. A reference to it is a gate too
+/// (as one to each gate), so that it can be asked afterwards. Nothing is promised of it.
 #[derive(Drop)]
 pub struct HoldGate {
     first: Held,
@@ -98,11 +98,5 @@ impl Gate for HoldGate {
         if let Some(second) = &self.second {
             second.wait(call);
         }
-    }
-}
-
-impl Gate for &HoldGate {
-    fn at<R: Wait>(&self, rt: &R, session: u32, seq: u32) {
-        HoldGate::at(self, rt, session, seq);
     }
 }

@@ -17,7 +17,7 @@ use Rattle.dcr_graph.specs.Names.{AreDistinct, comma_names, is_letter, is_name, 
 use Rattle.dcr_line.specs.Known.{AreNames}
 use Rattle.dcr_line.specs.Line.{list_text, name_of, names_text}
 use Rattle.dcr_line.specs.MarkLine.{ascends_from, each, from_low, list_in, listed_in, set_numbered}
-use Rattle.dcr_line.specs.PiecesModel.{pieces_of}
+use Rattle.dcr_text.specs.Lines.{pieces_of}
 use Rattle.dcr_line.proofs.CallLemmas.{chosen, is_word}
 use Rattle.dcr_line.proofs.NameLemmas.{found_at, name_found, name_lacks}
 use Rattle.dcr_line.proofs.PiecesLemmas.{joined_pieces, lacks, pieces_joined}

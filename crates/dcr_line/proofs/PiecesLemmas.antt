@@ -5,7 +5,7 @@ use Rattle.std.proofs.lemmas.Bool.{and_parts, eq-eqb, ne_eqb, not-true}
 use Rattle.std.proofs.lemmas.List.Elements.{All-cons, All-from_get_or, All-nil}
 use Rattle.std.proofs.lemmas.List.Splits.{join_with_byte-slice_split, slice_split_at, slice_split_first, slice_split_none}
 use Rattle.std.proofs.lemmas.List.Sums.{position_or_len_is}
-use Rattle.dcr_line.specs.PiecesModel.{pieces_of}
+use Rattle.dcr_text.specs.Lines.{pieces_of}
 
 -- the first piece ends at the first separator
 pub pieces_at : (separator : ℕ) (text : List ℕ) (at : ℕ) → at < length text → get_or text at 0 ≡ separator → ((k : ℕ) → k < at → get_or text k 0 ≢ separator)

@@ -8,7 +8,7 @@ use Rattle.dcr_graph.specs.Projection.{FitsAtoms}
 use Rattle.dcr_graph.specs.declared.marking.SiteMark.{SiteMark}
 use Rattle.dcr_line.specs.Known.{AreNames}
 use Rattle.dcr_line.specs.Line.{mark_text}
-use Rattle.dcr_line.specs.PiecesModel.{pieces_of}
+use Rattle.dcr_text.specs.Lines.{pieces_of}
 use Rattle.dcr_line.specs.Words.{◌>>=◌, words_of, Front, all_of, first_by, words_behind}
 
 -- each of a list read, and none where one can't be

@@ -1,12 +1,8 @@
 -- What pieces of a text are still to come.
-use Rattle.std.specs.Prelude.{ℕ, ◌==◌, List, [], Option, Some, None}
-use Rattle.std.specs.List.{slice_split}
+use Rattle.std.specs.Prelude.{ℕ, List, [], Option, Some, None}
 use Rattle.std.specs.Borrow.{Bor}
+use Rattle.dcr_text.specs.Lines.{pieces_of}
 use Rattle.dcr_line.specs.declared.pieces.Pieces.TheInside.{Inside}
-
--- the pieces of a text, cut at each separator: one at least
-abbrev pub pieces_of : ℕ → List ℕ → List (List ℕ)
-pieces_of separator text = slice_split (λ byte. byte == separator) text
 
 abbrev pub pieces_of_rest : ℕ → Option (Bor (List ℕ)) → List (List ℕ)
 pieces_of_rest separator None = []

@@ -2,7 +2,7 @@
 use Rattle.std.specs.Prelude.{ℕ, List, [], ◌∷◌, Option, Some, None, option_map, option_and_then, if◌then◌else◌}
 use Rattle.std.specs.Str.{bytes_eq}
 use Rattle.dcr_graph.specs.Names.{number_of}
-use Rattle.dcr_line.specs.PiecesModel.{pieces_of}
+use Rattle.dcr_text.specs.Lines.{pieces_of}
 
 infixl 10 ◌>>=◌
 -- the next step, where this one gave something

@@ -1,6 +1,6 @@
 ghost use Rattle.std.specs.Prelude.{◌≡◌};
 ghost use Rattle.std.specs.Iterator.{YieldsFirstRef, item_count};
-ghost use Rattle.dcr_line.specs.PiecesModel.{pieces_of};
+ghost use Rattle.dcr_text.specs.Lines.{pieces_of};
 
 use std::marker::Model;
 

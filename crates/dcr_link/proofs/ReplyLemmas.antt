@@ -15,7 +15,7 @@ use Rattle.dcr_turn.specs.Covers.{is_by}
 use Rattle.dcr_turn.specs.PassValue.{PassValue, HasMadeAll}
 use Rattle.dcr_turn.specs.Pushing.{entry_of}
 use Rattle.dcr_line.specs.Line.{entry_text}
-use Rattle.dcr_line.specs.PiecesModel.{pieces_of}
+use Rattle.dcr_text.specs.Lines.{pieces_of}
 use Rattle.dcr_link.specs.Replies.{Placed, answers, calls_in, ended, is_short, lines_met, lines_text, most_bytes, most_lines, placed_of, whole_lines}
 
 -- ---- what is asked, and what it is answered

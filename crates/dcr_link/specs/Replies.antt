@@ -6,7 +6,7 @@ use Rattle.dcr_journal.specs.declared.call.Call.{Call}
 use Rattle.dcr_journal.specs.declared.call.Entry.{Entry}
 use Rattle.dcr_line.specs.CallLine.{call_in}
 use Rattle.dcr_line.specs.Line.{entry_text}
-use Rattle.dcr_line.specs.PiecesModel.{pieces_of}
+use Rattle.dcr_text.specs.Lines.{pieces_of}
 use Rattle.dcr_turn.specs.PassValue.{PassValue}
 use Rattle.dcr_cluster.specs.declared.halt.Halt.{Halt}
 use Rattle.dcr_cluster.specs.declared.halt.Halt.TheVariants.{Full, Stopped}

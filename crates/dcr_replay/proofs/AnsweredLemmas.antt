@@ -13,7 +13,7 @@ use Rattle.dcr_line.specs.Fits.{FitsEntry, FitsOutcome, is_of_kind}
 use Rattle.dcr_line.specs.Known.{AreNames}
 use Rattle.dcr_line.specs.Line.{entry_text}
 use Rattle.dcr_report.proofs.LegalLemmas.{answer-kind, answer_fits}
-use Rattle.dcr_replay.specs.Cut.{Line, line_of, whole}
+use Rattle.dcr_text.specs.Lines.{Line, line_of, whole}
 use Rattle.dcr_replay.specs.EntryLines.{Setting, entry_at}
 use Rattle.dcr_replay.specs.Stands.{IsSound, MayCome, Stands}
 use Rattle.dcr_replay.specs.declared.entries.Run.{Run}

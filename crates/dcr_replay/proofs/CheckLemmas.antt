@@ -1,7 +1,7 @@
 -- The verdict line by line: what one more line of an entry gives, and where the end begins.
 use Rattle.std.proofs.Common.{◌≡◌, ◌+◌, true, false, List, [], ◌∷◌, ◌++◌, drop, length, slice_get, Option, Some, None, Result, Ok, Err, if◌then◌else◌, refl, ap, subst, ◌∙◌}
 use Rattle.dcr_journal.specs.declared.call.Entry.{Entry}
-use Rattle.dcr_replay.specs.Cut.{Line}
+use Rattle.dcr_text.specs.Lines.{Line}
 use Rattle.dcr_replay.specs.EntryLines.{Setting, entry_at, begins_with_digit}
 use Rattle.dcr_replay.specs.EndLines.{ends_after}
 use Rattle.dcr_replay.specs.FirstWrong.{run_from, with_entry}

@@ -1,7 +1,7 @@
 -- The lines that are wanted behind the entries, one after the other.
 use Rattle.std.proofs.Common.{◌≡◌, ℕ, ◌+◌, Bool, true, false, List, [], ◌∷◌, drop, slice_get, Option, Some, None, option_map, if◌then◌else◌, refl, sym, ap, subst, ◌∙◌}
 use Rattle.std.specs.Option.{option_map_or, is_some}
-use Rattle.dcr_replay.specs.Cut.{Line, says}
+use Rattle.dcr_text.specs.Lines.{Line, says}
 use Rattle.dcr_replay.specs.EndLines.{ends_by}
 use Rattle.dcr_replay.specs.declared.verdict.Verdict.TheVariants.{Valid, Invalid}
 use Rattle.dcr_replay.specs.declared.verdict.Wrong.{Wrong}

@@ -28,7 +28,7 @@ use Rattle.dcr_canon.specs.GraphText.{graph_text}
 use Rattle.dcr_canon.specs.Laws.{HaveNoLineEnd}
 use Rattle.dcr_reading.specs.Accepted.{IsAcceptedCover, IsAcceptedGraph, IsCoverIn, IsGraphIn, atom_names}
 use Rattle.dcr_report.specs.Report.{end_lines, entry_lines, head_lines, report_lines, report_text, site_lines, version_text}
-use Rattle.dcr_replay.specs.Cut.{Line, line_of, lines_of}
+use Rattle.dcr_text.specs.Lines.{Line, line_of, lines_of}
 use Rattle.dcr_replay.specs.EntryLines.{Setting, last_of}
 use Rattle.dcr_replay.specs.FirstWrong.{FromCover, FromGraph, FromHead, IsVerdict, from_opening, opened, setting}
 use Rattle.dcr_replay.specs.HeadLines.{IsCoverAt, IsGraphAt, first_behind, opening_at, version_at}

@@ -8,7 +8,7 @@ use Rattle.dcr_journal.specs.Run.{marks_at}
 use Rattle.dcr_journal.specs.declared.call.Entry.{Entry}
 use Rattle.dcr_line.proofs.CallLemmas.{chosen}
 use Rattle.dcr_report.specs.Report.{site_lines, end_lines, verdict_text}
-use Rattle.dcr_replay.specs.Cut.{Line, line_of, says}
+use Rattle.dcr_text.specs.Lines.{Line, line_of, says}
 use Rattle.dcr_replay.specs.EntryLines.{Setting, last_of}
 use Rattle.dcr_replay.specs.EndLines.{ends_by, ends_after, wanted}
 use Rattle.dcr_replay.specs.declared.verdict.Verdict.TheVariants.{Valid, Invalid}

@@ -32,7 +32,7 @@ use Rattle.dcr_line.specs.Line.{entry_text, spaced, call_words, outcome_words}
 use Rattle.dcr_line.proofs.CallLemmas.{chosen}
 use Rattle.dcr_line.proofs.EntryLemmas.{entry_read, entry_texts, entry_told}
 use Rattle.dcr_report.proofs.LegalLemmas.{answer-kind, answer_fits, legal_entry}
-use Rattle.dcr_replay.specs.Cut.{Line, line_of, whole}
+use Rattle.dcr_text.specs.Lines.{Line, line_of, whole}
 use Rattle.dcr_replay.specs.EntryLines.{Setting, answer_after, begins_with_digit, entry_after, entry_at, has_fault, if_next, is_answered, is_done, is_faulted, is_next, is_open, judged, last_of, with_outcome}
 use Rattle.dcr_replay.specs.declared.verdict.Wrong.TheVariants as wrong
 use Rattle.dcr_replay.proofs.LawLemmasHead.{whole_told}

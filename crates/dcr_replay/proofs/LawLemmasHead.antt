@@ -18,7 +18,7 @@ use Rattle.dcr_line.specs.MarkLine.{mark_in}
 use Rattle.dcr_line.proofs.CallLemmas.{chosen, is_word}
 use Rattle.dcr_line.proofs.MarkLemmas.{mark_text_read, mark_told}
 use Rattle.dcr_report.specs.Report.{version_text}
-use Rattle.dcr_replay.specs.Cut.{Line, line_of, whole}
+use Rattle.dcr_text.specs.Lines.{Line, line_of, whole}
 use Rattle.dcr_replay.specs.HeadLines.{behind, first_text, first_behind, version_of, version_at, opening_at}
 
 -- ---- a first line

@@ -17,7 +17,7 @@ use Rattle.dcr_canon.specs.Laws.{HaveNoLineEnd}
 use Rattle.dcr_reading.specs.Accepted.{IsAcceptedCover, IsAcceptedGraph, atom_names}
 use Rattle.dcr_reading.specs.Laws.{MeanOne}
 use Rattle.dcr_report.specs.Report.{version_text}
-use Rattle.dcr_replay.specs.Cut.{Line, line_of, lines_of, says}
+use Rattle.dcr_text.specs.Lines.{Line, line_of, lines_of, says}
 use Rattle.dcr_replay.specs.EntryLines.{Setting, begins_with_digit, entry_at}
 use Rattle.dcr_replay.specs.EndLines.{ends_after, ends_by, wanted}
 use Rattle.dcr_replay.specs.FirstWrong.{FromCover, FromGraph, FromHead, from_opening, opened, run_from, with_entry}

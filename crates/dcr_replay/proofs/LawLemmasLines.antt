@@ -5,10 +5,10 @@ use Rattle.std.proofs.lemmas.Bool.{and_parts, eq-eqb, false≢true, not-true}
 use Rattle.std.proofs.lemmas.List.{append_assoc}
 use Rattle.std.proofs.lemmas.List.Elements.{All-cons, All-nil}
 use Rattle.std.proofs.lemmas.List.Splits.{length-slice_split, slice_split_at}
-use Rattle.dcr_line.specs.PiecesModel.{pieces_of}
+use Rattle.dcr_text.specs.Lines.{pieces_of}
 use Rattle.dcr_line.proofs.PiecesLemmas.{joined_pieces, lacks}
 use Rattle.dcr_report.specs.Report.{line, lines_text}
-use Rattle.dcr_replay.specs.Cut.{Line, line_of, lines_in, lines_of}
+use Rattle.dcr_text.specs.Lines.{Line, line_of, lines_in, lines_of}
 
 -- lines of these texts, each with its end
 abbrev pub ended : List (List ℕ) → List Line

@@ -7,7 +7,7 @@ use Rattle.dcr_nest.specs.declared.node.Version.{Version}
 use Rattle.dcr_proj.specs.CoverValue.{Owners}
 use Rattle.dcr_reading.specs.Accepted.{IsCoverIn, IsGraphIn, atom_names}
 use Rattle.dcr_reading.specs.Laws.{MeanOne}
-use Rattle.dcr_replay.specs.Cut.{Line, lines_of}
+use Rattle.dcr_text.specs.Lines.{Line, lines_of}
 use Rattle.dcr_replay.specs.FirstWrong.{FromCover, FromGraph, FromHead, from_opening}
 use Rattle.dcr_replay.specs.HeadLines.{IsCoverAt, IsGraphAt, first_behind, version_at}
 use Rattle.dcr_replay.specs.OneVerdict.{VerdictIsOne}

@@ -7,7 +7,7 @@ use Rattle.dcr_journal.specs.Run.{marks_at}
 use Rattle.dcr_journal.specs.declared.call.Entry.{Entry}
 use Rattle.dcr_line.proofs.CallLemmas.{chosen}
 use Rattle.dcr_report.specs.Report.{entry_lines, site_lines, end_lines}
-use Rattle.dcr_replay.specs.Cut.{Line, line_of}
+use Rattle.dcr_text.specs.Lines.{Line, line_of}
 use Rattle.dcr_replay.specs.EntryLines.{Setting, begins_with_digit, entry_at, last_of}
 use Rattle.dcr_replay.specs.EndLines.{ends_after}
 use Rattle.dcr_replay.specs.FirstWrong.{run_from, with_entry}

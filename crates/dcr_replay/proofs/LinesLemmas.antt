@@ -1,9 +1,9 @@
 -- The lines of a text: the first of them, and those behind it.
 use Rattle.std.proofs.Common.{◌≡◌, ◌≢◌, ℕ, ◌+◌, ◌<◌, eqb, true, false, List, [], ◌∷◌, length, get_or, take, drop, refl, ap, ◌∙◌, arith}
 use Rattle.std.proofs.lemmas.List.Splits.{length-slice_split}
-use Rattle.dcr_line.specs.PiecesModel.{pieces_of}
+use Rattle.dcr_text.specs.Lines.{pieces_of}
 use Rattle.dcr_line.proofs.PiecesLemmas.{pieces_at, pieces_whole}
-use Rattle.dcr_replay.specs.Cut.{line_of, lines_in, lines_of, unended}
+use Rattle.dcr_text.specs.Lines.{line_of, lines_in, lines_of, unended}
 
 lines_more : (text : List ℕ) (more : List (List ℕ)) → 0 < length more → lines_in (text ∷ more) ≡ line_of text true ∷ lines_in more
 unfolding lines_in

@@ -12,7 +12,7 @@ use Rattle.dcr_proj.specs.CoverValue.{Owners}
 use Rattle.dcr_journal.specs.Run.{marks_at}
 use Rattle.dcr_journal.specs.declared.call.Entry.{Entry}
 use Rattle.dcr_report.specs.Report.{site_text, site_lines, verdict_text}
-use Rattle.dcr_replay.specs.Cut.{Line}
+use Rattle.dcr_text.specs.Lines.{Line}
 use Rattle.dcr_replay.specs.EndLines.{ends_by, ends_after}
 use Rattle.dcr_replay.specs.EntryLines.{Setting, last_of}
 use Rattle.dcr_replay.specs.Stands.{Stands}

@@ -4,7 +4,7 @@ use Rattle.dcr_graph.specs.Cause.{waits}
 use Rattle.dcr_journal.specs.Run.{marks_at}
 use Rattle.dcr_journal.specs.declared.call.Entry.{Entry}
 use Rattle.dcr_report.specs.Report.{site_lines, verdict_text}
-use Rattle.dcr_replay.specs.Cut.{Line, says}
+use Rattle.dcr_text.specs.Lines.{Line, says}
 use Rattle.dcr_replay.specs.EntryLines.{Setting, last_of}
 use Rattle.dcr_replay.specs.declared.verdict.Verdict.{Verdict}
 use Rattle.dcr_replay.specs.declared.verdict.Verdict.TheVariants.{Valid, Invalid}

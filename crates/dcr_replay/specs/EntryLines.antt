@@ -14,7 +14,7 @@ use Rattle.dcr_journal.specs.declared.call.Outcome.{Outcome}
 use Rattle.dcr_journal.specs.declared.call.Outcome.TheVariants.{Done, Faulted}
 use Rattle.dcr_line.specs.EntryLine.{entry_in}
 use Rattle.dcr_line.specs.Line.{entry_text}
-use Rattle.dcr_replay.specs.Cut.{Line, whole}
+use Rattle.dcr_text.specs.Lines.{Line, whole}
 use Rattle.dcr_replay.specs.declared.verdict.Wrong.{Wrong}
 use Rattle.dcr_replay.specs.declared.verdict.Wrong.TheVariants as wrong
 

@@ -9,7 +9,7 @@ use Rattle.dcr_graph.specs.Rules.{Rules}
 use Rattle.dcr_graph.specs.declared.marking.Marking.{Marking}
 use Rattle.dcr_journal.specs.declared.call.Entry.{Entry}
 use Rattle.dcr_reading.specs.Accepted.{atom_names}
-use Rattle.dcr_replay.specs.Cut.{Line, lines_of}
+use Rattle.dcr_text.specs.Lines.{Line, lines_of}
 use Rattle.dcr_replay.specs.HeadLines.{version_at, IsGraphAt, IsCoverAt, opening_at}
 use Rattle.dcr_replay.specs.EntryLines.{Setting, entry_at, begins_with_digit}
 use Rattle.dcr_replay.specs.EndLines.{ends_after}

@@ -12,7 +12,7 @@ use Rattle.dcr_line.specs.MarkLine.{mark_in}
 use Rattle.dcr_report.specs.Report.{version_text}
 use Rattle.dcr_reading.specs.Accepted.{IsGraphIn, IsCoverIn}
 use Rattle.dcr_reading.specs.declared.value.TheConstants.{MAX_BYTES}
-use Rattle.dcr_replay.specs.Cut.{Line, whole}
+use Rattle.dcr_text.specs.Lines.{Line, whole}
 
 -- what is behind a word that the text begins with
 abbrev pub behind : List ℕ → List ℕ → Option (List ℕ)

@@ -1,6 +1,6 @@
 -- Which line of a text is the first wrong one, in the words of reports.
 use Rattle.std.specs.Prelude.{◌≡◌, ℕ, ◌+◌, ◌<◌, ◌≤◌, List, length, take}
-use Rattle.dcr_replay.specs.Cut.{lines_of}
+use Rattle.dcr_text.specs.Lines.{lines_of}
 use Rattle.dcr_replay.specs.FirstWrong.{IsVerdict}
 use Rattle.dcr_replay.specs.Laws.{IsReport}
 use Rattle.dcr_replay.specs.declared.verdict.Verdict.TheVariants.{Invalid}

@@ -1,4 +1,3 @@
-pub mod Cut
 pub mod LinesModel
 pub mod HeadLines
 pub mod EntryLines

@@ -1,6 +1,6 @@
 -- What lines of a text are still to come.
 use Rattle.std.specs.Prelude.{List, [], ◌∷◌, Option, Some, None}
-use Rattle.dcr_replay.specs.Cut.{Line, line_of, lines_of}
+use Rattle.dcr_text.specs.Lines.{Line, line_of, lines_of}
 use Rattle.dcr_replay.specs.declared.lines.Line.{Line as Cut}
 use Rattle.dcr_replay.specs.declared.lines.Lines.TheInside.{Inside}
 

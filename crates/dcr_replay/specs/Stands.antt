@@ -6,7 +6,7 @@ use Rattle.dcr_proj.specs.CoverValue.{IsCover}
 use Rattle.dcr_journal.specs.Run.{made_by}
 use Rattle.dcr_journal.specs.declared.call.Entry.{Entry}
 use Rattle.dcr_line.specs.DirectoryModel.{named}
-use Rattle.dcr_replay.specs.Cut.{Line}
+use Rattle.dcr_text.specs.Lines.{Line}
 use Rattle.dcr_replay.specs.EntryLines.{Setting, last_of, has_fault, entry_at}
 use Rattle.dcr_replay.specs.Tracks.{tracked_of}
 use Rattle.dcr_replay.specs.declared.entries.Run.{Run}

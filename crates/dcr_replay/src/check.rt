@@ -5,7 +5,7 @@ ghost use Rattle.dcr_graph.specs.Pairs.{first_clash};
 ghost use Rattle.dcr_graph.specs.Projection.{HasRoom};
 ghost use Rattle.dcr_nest.specs.FlatRelation.{IsFlattening, flat_relation};
 ghost use Rattle.dcr_line.specs.DirectoryModel.{named};
-ghost use Rattle.dcr_replay.specs.Cut.{lines_of};
+ghost use Rattle.dcr_text.specs.Lines.{lines_of};
 ghost use Rattle.dcr_replay.specs.HeadLines.{TellsNoText, opening_at, version_at};
 ghost use Rattle.dcr_replay.specs.declared.verdict.Verdict.TheVariants.{Invalid};
 ghost use Rattle.dcr_replay.specs.declared.verdict.Wrong.TheVariants as wrong;

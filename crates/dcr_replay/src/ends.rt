@@ -7,7 +7,7 @@ ghost use Rattle.dcr_graph.specs.GraphValue.{rules_of};
 ghost use Rattle.dcr_graph.specs.Projection.{project, FitsAtoms};
 ghost use Rattle.dcr_graph.specs.Rows.{row};
 ghost use Rattle.dcr_report.specs.Report.{site_text, verdict_text};
-ghost use Rattle.dcr_replay.specs.Cut.{says};
+ghost use Rattle.dcr_text.specs.Lines.{says};
 ghost use Rattle.dcr_replay.specs.EndLines.{ends_by, ends_after};
 ghost use Rattle.dcr_replay.specs.EntryLines.{Setting};
 ghost use Rattle.dcr_replay.specs.Stands.{IsSound, Stands};

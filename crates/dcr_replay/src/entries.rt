@@ -10,7 +10,7 @@ ghost use Rattle.dcr_line.specs.DirectoryModel.{named};
 ghost use Rattle.dcr_line.specs.Known.{AreNames};
 ghost use Rattle.dcr_line.specs.Fits.{FitsEntry};
 ghost use Rattle.dcr_line.specs.Line.{entry_text};
-ghost use Rattle.dcr_replay.specs.Cut.{line_of};
+ghost use Rattle.dcr_text.specs.Lines.{line_of};
 ghost use Rattle.dcr_replay.specs.EntryLines.{Setting, is_done, is_faulted, entry_after, entry_at, is_answered, answer_after};
 ghost use Rattle.dcr_replay.specs.FirstWrong.{setting};
 ghost use Rattle.dcr_replay.specs.Stands.{IsSound, MayCome, Stands, Takes};

@@ -1,6 +1,6 @@
 // The lines of a text, from the first on.
 ghost use Rattle.std.specs.Prelude.{◌≡◌, IsTrue, IsNone, ◌↔◌, [], drop, option_map, slice_get, Some, None};
-ghost use Rattle.dcr_replay.specs.Cut.{line_of, lines_of, whole, says};
+ghost use Rattle.dcr_text.specs.Lines.{line_of, lines_of, whole, says};
 ghost use Rattle.dcr_replay.specs.HeadLines.{behind};
 ghost use Rattle.dcr_replay.specs.EntryLines.{begins_with_digit};
 
@@ -61,7 +61,7 @@ pub(crate) struct Lines<'a> {
 
 impl<'a> Model for Lines<'a> {
     ghost use Rattle.std.specs.Prelude.{List};
-    ghost use Rattle.dcr_replay.specs.Cut.{Line};
+    ghost use Rattle.dcr_text.specs.Lines.{Line};
 
     ghost Value = { List Line };
 

@@ -3,11 +3,15 @@
 #![tactic(auto)]
 
 #[cfg(test)]
+mod apart;
+#[cfg(test)]
 mod faults;
 #[cfg(test)]
 mod same;
 #[cfg(test)]
 mod served;
+#[cfg(test)]
+mod stages;
 #[cfg(test)]
 mod stored;
 #[cfg(test)]

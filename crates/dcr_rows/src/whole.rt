@@ -1,7 +1,8 @@
 // A whole case and its whole report, and how the program is called on it.
+use crate::apart::apart_report;
 use crate::same::{same, same_bytes};
-use dcr_app::{Status, dcr};
-use dcr_base::{Gate, OpenGate, StdSink, StdSource};
+use dcr_app::{End, Status, dcr};
+use dcr_base::{Gate, OpenGate, Sink, Source, StdSink, StdSource};
 use dcr_fakes::{MemDisk, MemDoor};
 use std::alloc::{AllocError, Global};
 use std::sync::Wait;
@@ -78,28 +79,56 @@ pub(crate) fn answer_at<G: Gate + Drop + Sync, R: Threads + Wait + Sync>(
     bytes: &[u8],
     gate: G,
 ) -> Result<(Status, Vec<u8>), Fail> {
-    let words = words_of(alloc, words)?;
     let mut input = StdSource::new(bytes);
     // With its room taken at first, the sink of a small report doesn't fail for want of memory.
     let mut output = StdSink::new(Vec::with_capacity(alloc, 4096)?);
+    let (status, _) = called(rt, alloc, words, &mut input, &mut output, gate)?;
+    Ok((status, output.into_inner()))
+}
+
+// How the program ends on these words over this source and this sink, and how many messages its nodes have sent, where it
+// tells of nodes. That it calls the disk is a failure.
+pub(crate) fn called<I: Source, O: Sink, G: Gate + Drop + Sync, R: Threads + Wait + Sync>(
+    rt: &R,
+    alloc: Global,
+    words: &[&str],
+    input: &mut I,
+    output: &mut O,
+    gate: G,
+) -> Result<(Status, Option<u64>), Fail> {
+    let words = words_of(alloc, words)?;
     let (door, disk) = (no_door(alloc), empty_disk(alloc));
-    let end = dcr(rt, alloc, &words, &mut input, &mut output, door, disk, gate);
+    let end = dcr(rt, alloc, &words, input, output, door, disk, gate);
+    told_by(&end)
+}
+
+// The same of this end.
+fn told_by(end: &End<MemDoor, MemDisk>) -> Result<(Status, Option<u64>), Fail> {
     if !end.disk.calls().is_empty() {
         return Err(Fail::from("the disk was called"));
     }
-    Ok((end.status, output.into_inner()))
+    let sent = match &end.world {
+        Some(world) => Some(world.sent()),
+        None => None,
+    };
+    Ok((end.status, sent))
 }
 
 #[test]
 fn want_of_memory_leaves_a_front_of_the_report(rt: HostRuntime) -> Result<(), Fail> {
-    let report = HOSPITAL.report.as_bytes();
-    let (status, written) = answer(&rt, rt.alloc(), &["run"], HOSPITAL.file.as_bytes())?;
-    if status == Status::Done {
-        same_bytes(&rt, written.as_slice(), report, "written.as_slice()");
-    } else {
-        // Where an allocation was made to fail.
-        same(&rt, &status, &Status::NoMemory, "status");
-        assert!(rt; report.starts_with(&written));
+    for (name, words, report) in [
+        ("run", ["run"].as_slice(), HOSPITAL.report),
+        ("nodes", &["nodes", "5"], apart_report()),
+    ] {
+        let (status, written) = answer(&rt, rt.alloc(), words, HOSPITAL.file.as_bytes())?;
+        if status == Status::Done {
+            same_bytes(&rt, &written, report.as_bytes(), name);
+        } else {
+            // Where an allocation was made to fail.
+            same(&rt, &status, &Status::NoMemory, name);
+            let is_front = report.as_bytes().starts_with(&written);
+            same(&rt, &is_front, &true, name);
+        }
     }
     Ok(())
 }

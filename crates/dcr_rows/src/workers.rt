@@ -180,7 +180,7 @@ struct Narrow {
     gate: HoldGate,
 }
 
-impl Gate for &Narrow {
+impl Gate for Narrow {
     fn at<R: Wait>(&self, rt: &R, session: u32, seq: u32) {
         let held = self.room.lock(rt);
         self.gate.at(rt, session, seq);

@@ -1,2 +1,3 @@
 pub mod Cutting
 pub mod CutterModel
+pub mod Lines

@@ -1,22 +1,26 @@
-use Rattle.std.proofs.Common.{◌≡◌, ◌⊎◌, ℕ, Bool, false, Option, Some, IfSome, inl, inr, ap, subst, sym, ◌∙◌}
+use Rattle.std.proofs.Common.{rules, ◌≡◌, ◌⊎◌, ℕ, Bool, false, Option, None, Some, IfSome, inl, inr, ap, subst, sym, ◌∙◌}
 use Rattle.dcr_base.specs.Count.{Rose}
 use Rattle.dcr_base.specs.declared.status.Status.{Status}
 use Rattle.dcr_base.specs.declared.status.Status.TheVariants.{Done, DoorFault, Invalid, NoMemory, Refused, Usage, WriteFault}
 use Rattle.dcr_json.specs.Case.{case_in}
-use Rattle.dcr_app.specs.Answers.{EndsRun, EndsServing, IsAnsweredCase, IsAnsweredReport, IsServing, IsToldByOne, Refuses, RefusesCase, SaysInvalid, SaysValid}
+use Rattle.dcr_app.specs.Adapted.{AnswersStages, IsAnsweredStages, RefusesStages, WroteReports}
+use Rattle.dcr_app.specs.Answers.{Answers, EndsRun, EndsServing, IsAnsweredCase, IsAnsweredReport, IsServing, IsToldByOne, Refuses, RefusesCase, SaysInvalid, SaysValid}
 use Rattle.dcr_app.specs.Command.{command_in}
+use Rattle.dcr_app.specs.Logged.{AnswersLog, IsAnsweredLog, RefusesInput}
 use Rattle.dcr_app.specs.Telling.{LeavesDoor, Telling, by_workers, doors_of, over_links}
 use Rattle.dcr_app.specs.declared.command.Command.{Command}
 use Rattle.dcr_app.specs.declared.command.Command.TheVariants.{Replay, Run, Serve}
 use Rattle.dcr_app.specs.declared.app.End.{End}
+use Rattle.dcr_app.proofs.AdaptLemmas.{answered_stages, refuses_stages, stages_end}
 use Rattle.dcr_app.proofs.ApartLemmas.{EndsApart, answered_apart, apart_ends, refuses_apart}
 use Rattle.dcr_app.proofs.CommandLemmas.{one_run, one_serving}
+use Rattle.dcr_app.proofs.ConformLemmas.{answered_log, log_ends, refuses_log}
 use Rattle.dcr_app.proofs.FaultlessLemmas.{answered_case}
 use Rattle.dcr_app.proofs.LinksLemmas.{door_by, full_by, full_told, left_by, no_fewer_by, unasked_by}
 use Rattle.dcr_app.proofs.ReplayLemmas.{answered_report, refuses_report, says_invalid, says_valid}
 use Rattle.dcr_app.proofs.RunLemmas.{done_throughout, told_by_one}
 use Rattle.dcr_app.proofs.TapeLemmas.{still_same}
-use Rattle.dcr_app.proofs.app.dcr.Goals.{in-None, in-Some-Load, in-Some-Nodes, in-Some-Replay}
+use Rattle.dcr_app.proofs.app.dcr.Goals.{in-None, in-Some-Adapt, in-Some-Conform, in-Some-Load, in-Some-Nodes, in-Some-Replay}
 use Rattle.dcr_app.proofs.app.dcr.Goals as goal
 
 -- a run is never told as one whose door failed
@@ -168,8 +172,36 @@ handed g c = ap (λ (e : End _ _ _ _). e.disk) c.over.ensures ∙ elim c.match-c
   | in-Some-Replay w ↦ ap (λ answer. answer.1) w.answer-is
   | in-Some-Load w ↦ ap (λ answer. answer.1) w.answer-is ∙ w.load.ensures.disk
   | in-Some-Nodes w ↦ ap (λ answer. answer.1) w.answer-is
+  | in-Some-Conform w ↦ ap (λ answer. answer.1) w.answer-is
+  | in-Some-Adapt w ↦ ap (λ answer. answer.1) w.answer-is ∙ w.adapt.ensures.disk
   | in-None w ↦ ap (λ answer. answer.1) w.answer-is
 ]
+
+pub returns-clause-answers : goal.returns-clause-answers
+returns-clause-answers g c =
+    let left = g.I.Source.left c.args.input.now in let had = g.O.Sink.taken c.args.output.now in let took = g.O.Sink.taken c.match-command_of.output in
+    elim c.match-command_of.branch [
+      | in-Some-Conform w ↦
+          subst (λ (command : Option Command). Answers g.D.Disk.view g.D.Disk.faults (doors_of g.B.Door.links g.B.Door.is_shut g.B.Door.faults g.B.Link.Source.left g.B.Link.Sink.taken g.B.Link.Rest.Spent.unread g.B.Link.Rest.Spent.sent g.B.Link.Rest.Spent.failed_reads g.B.Link.Rest.Spent.failed_writes) command c.args.door c.args.disk left (g.I.Source.has_ended c.match-command_of.input) had took c.over.result)
+          (sym (sym c.command_of.ensures.spelled ∙ (w.in-Some-Conform.is ∙ ap Some w.in-Some-Conform.field-0-is)))
+          (subst (λ (end : End _ _ _ _). (end.closed ≡ None) × AnswersLog left (g.I.Source.has_ended c.match-command_of.input) had took end.status) (sym c.over.ensures)
+          (subst (λ answer. (answer.0.closed ≡ None) × AnswersLog left (g.I.Source.has_ended c.match-command_of.input) had took answer.0.status) (sym w.answer-is)
+          (subst (λ i. (w.conform.result.closed ≡ None) × AnswersLog left (g.I.Source.has_ended i) had took w.conform.result.status) (sym w.input-is)
+          (subst (λ o. (w.conform.result.closed ≡ None) × AnswersLog left (g.I.Source.has_ended w.conform.new.input) had (g.O.Sink.taken o) w.conform.result.status) (sym w.output-is)
+          (w.conform.ensures.closed, w.conform.ensures.answers)))))
+      | in-Some-Adapt w ↦
+          subst (λ (command : Option Command). Answers g.D.Disk.view g.D.Disk.faults (doors_of g.B.Door.links g.B.Door.is_shut g.B.Door.faults g.B.Link.Source.left g.B.Link.Sink.taken g.B.Link.Rest.Spent.unread g.B.Link.Rest.Spent.sent g.B.Link.Rest.Spent.failed_reads g.B.Link.Rest.Spent.failed_writes) command c.args.door c.args.disk left (g.I.Source.has_ended c.match-command_of.input) had took c.over.result)
+          (sym (sym c.command_of.ensures.spelled ∙ (w.in-Some-Adapt.is ∙ ap Some w.in-Some-Adapt.field-0-is)))
+          (subst (λ (end : End _ _ _ _). AnswersStages left (g.I.Source.has_ended c.match-command_of.input) had took end.status end.closed) (sym c.over.ensures)
+          (subst (λ answer. AnswersStages left (g.I.Source.has_ended c.match-command_of.input) had took answer.0.status answer.0.closed) (sym w.answer-is)
+          (subst (λ i. AnswersStages left (g.I.Source.has_ended i) had took w.adapt.result.0.status w.adapt.result.0.closed) (sym w.input-is)
+          (subst (λ o. AnswersStages left (g.I.Source.has_ended w.adapt.new.input) had (g.O.Sink.taken o) w.adapt.result.0.status w.adapt.result.0.closed) (sym w.output-is)
+          w.adapt.ensures.answers))))
+      | in-Some-Replay w ↦ search rules
+      | in-Some-Load w ↦ search rules
+      | in-Some-Nodes w ↦ search rules
+      | in-None w ↦ search rules
+    ]
 
 pub returns-clause-still : goal.returns-clause-still
 returns-clause-still g c = λ _. still_same g.D.Disk.view c.args.disk c.over.result.disk (handed g c)
@@ -183,6 +215,8 @@ returns-clause-valid g c = λ replays done. elim c.match-command_of.branch [
       w.valid_is_report.ensures status w.replay.ensures.answers)
   | in-Some-Load w ↦ absurd (let spelled = c.command_of.ensures.spelled in let is = w.in-Some-Load.is in let load = w.in-Some-Load.field-0-is in cc)
   | in-Some-Nodes w ↦ absurd (let spelled = c.command_of.ensures.spelled in let is = w.in-Some-Nodes.is in let nodes = w.in-Some-Nodes.field-0-is in cc)
+  | in-Some-Conform w ↦ absurd (let spelled = c.command_of.ensures.spelled in let is = w.in-Some-Conform.is in let conform = w.in-Some-Conform.field-0-is in cc)
+  | in-Some-Adapt w ↦ absurd (let spelled = c.command_of.ensures.spelled in let is = w.in-Some-Adapt.is in let adapt = w.in-Some-Adapt.field-0-is in cc)
   | in-None w ↦ absurd (let spelled = c.command_of.ensures.spelled in let is = w.in-None.is in cc)
 ]
 
@@ -197,6 +231,12 @@ returns-clause-invalid g c = λ invalid. elim c.match-command_of.branch [
   | in-Some-Nodes w ↦ absurd (never_invalid w.apart.result.status (sym (ap (λ answer. answer.0.status) w.answer-is) ∙ (sym (ended g c) ∙ invalid))
       (apart_ends (g.I.Source.left c.args.input.now) (g.I.Source.has_ended w.apart.new.input) (g.O.Sink.taken c.args.output.now) (g.O.Sink.taken w.apart.new.output) w.apart.result.status w.apart.result.closed
       w.apart.result.world w.apart.ensures.answers))
+  | in-Some-Adapt w ↦ absurd (never_invalid w.adapt.result.0.status (sym (ap (λ answer. answer.0.status) w.answer-is) ∙ (sym (ended g c) ∙ invalid))
+      (stages_end (g.I.Source.left c.args.input.now) (g.I.Source.has_ended w.adapt.new.input) (g.O.Sink.taken c.args.output.now) (g.O.Sink.taken w.adapt.new.output) w.adapt.result.0.status
+      w.adapt.result.0.closed w.adapt.ensures.answers))
+  | in-Some-Conform w ↦ absurd (never_invalid w.conform.result.status (sym (ap (λ answer. answer.0.status) w.answer-is) ∙ (sym (ended g c) ∙ invalid))
+      (log_ends (g.I.Source.left c.args.input.now) (g.I.Source.has_ended w.conform.new.input) (g.O.Sink.taken c.args.output.now) (g.O.Sink.taken w.conform.new.output) w.conform.result.status
+      w.conform.ensures.answers))
   | in-None w ↦ absurd (no_verdict _ (inl w.say.ensures.status) (sym (ap (λ answer. answer.0.status) w.answer-is) ∙ (sym (ended g c) ∙ invalid)))
 ]
 
@@ -211,6 +251,8 @@ returns-clause-checked g c = λ replays reads writes. elim c.match-command_of.br
       w.replay.ensures.answers)
   | in-Some-Load w ↦ absurd (let spelled = c.command_of.ensures.spelled in let is = w.in-Some-Load.is in let load = w.in-Some-Load.field-0-is in cc)
   | in-Some-Nodes w ↦ absurd (let spelled = c.command_of.ensures.spelled in let is = w.in-Some-Nodes.is in let nodes = w.in-Some-Nodes.field-0-is in cc)
+  | in-Some-Conform w ↦ absurd (let spelled = c.command_of.ensures.spelled in let is = w.in-Some-Conform.is in let conform = w.in-Some-Conform.field-0-is in cc)
+  | in-Some-Adapt w ↦ absurd (let spelled = c.command_of.ensures.spelled in let is = w.in-Some-Adapt.is in let adapt = w.in-Some-Adapt.field-0-is in cc)
   | in-None w ↦ absurd (let spelled = c.command_of.ensures.spelled in let is = w.in-None.is in cc)
 ]
 
@@ -226,6 +268,53 @@ returns-clause-apart g c = λ number is reads writes. elim c.match-command_of.br
       w.apart.ensures.answers)
   | in-Some-Replay w ↦ absurd (let spelled = c.command_of.ensures.spelled in let it = w.in-Some-Replay.is in let replay = w.in-Some-Replay.field-0-is in cc)
   | in-Some-Load w ↦ absurd (let spelled = c.command_of.ensures.spelled in let it = w.in-Some-Load.is in let load = w.in-Some-Load.field-0-is in cc)
+  | in-Some-Conform w ↦ absurd (let spelled = c.command_of.ensures.spelled in let it = w.in-Some-Conform.is in let conform = w.in-Some-Conform.field-0-is in cc)
+  | in-Some-Adapt w ↦ absurd (let spelled = c.command_of.ensures.spelled in let it = w.in-Some-Adapt.is in let adapt = w.in-Some-Adapt.field-0-is in cc)
+  | in-None w ↦ absurd (let spelled = c.command_of.ensures.spelled in let it = w.in-None.is in cc)
+]
+
+pub returns-clause-conformed : goal.returns-clause-conformed
+returns-clause-conformed g c = λ is reads writes. elim c.match-command_of.branch [
+  | in-Some-Conform w ↦
+      let left = g.I.Source.left c.args.input.now in
+      subst (λ (s : Status). IfSome left (λ bytes. IsAnsweredLog bytes s)) (sym (ended g c ∙ (ap (λ answer. answer.0.status) w.answer-is)))
+      (answered_log w.when_each_refusal_comes-in-Some-Conform.ensures.cases left (g.I.Source.has_ended w.conform.new.input) (g.O.Sink.taken c.args.output.now)
+      (g.O.Sink.taken w.conform.new.output) w.conform.result.status
+      (λ e. reads (subst (λ i. Rose (g.I.Source.read_faults c.args.input.now) (g.I.Source.read_faults i)) (sym w.input-is) (w.conform.ensures.read_counted e)))
+      (λ e. writes (subst (λ o. Rose (g.O.Sink.write_faults c.args.output.now) (g.O.Sink.write_faults o)) (sym w.output-is) (w.conform.ensures.write_counted e)))
+      w.conform.ensures.answers)
+  | in-Some-Replay w ↦ absurd (let spelled = c.command_of.ensures.spelled in let it = w.in-Some-Replay.is in let replay = w.in-Some-Replay.field-0-is in cc)
+  | in-Some-Load w ↦ absurd (let spelled = c.command_of.ensures.spelled in let it = w.in-Some-Load.is in let load = w.in-Some-Load.field-0-is in cc)
+  | in-Some-Nodes w ↦ absurd (let spelled = c.command_of.ensures.spelled in let it = w.in-Some-Nodes.is in let nodes = w.in-Some-Nodes.field-0-is in cc)
+  | in-Some-Adapt w ↦ absurd (let spelled = c.command_of.ensures.spelled in let it = w.in-Some-Adapt.is in let adapt = w.in-Some-Adapt.field-0-is in cc)
+  | in-None w ↦ absurd (let spelled = c.command_of.ensures.spelled in let it = w.in-None.is in cc)
+]
+
+pub returns-clause-adapted : goal.returns-clause-adapted
+returns-clause-adapted g c = λ is reads writes. elim c.match-command_of.branch [
+  | in-Some-Adapt w ↦
+      let left = g.I.Source.left c.args.input.now in
+      subst (λ (s : Status). IfSome left (λ bytes. IsAnsweredStages bytes s)) (sym (ended g c ∙ ap (λ answer. answer.0.status) w.answer-is))
+      (answered_stages left (g.I.Source.has_ended w.adapt.new.input) (g.O.Sink.taken c.args.output.now) (g.O.Sink.taken w.adapt.new.output) w.adapt.result.0.status w.adapt.result.0.closed
+      (λ e. reads (subst (λ i. Rose (g.I.Source.read_faults c.args.input.now) (g.I.Source.read_faults i)) (sym w.input-is) (w.adapt.ensures.read_counted e)))
+      (λ e. writes (subst (λ o. Rose (g.O.Sink.write_faults c.args.output.now) (g.O.Sink.write_faults o)) (sym w.output-is) (w.adapt.ensures.write_counted e)))
+      w.adapt.ensures.answers)
+  | in-Some-Replay w ↦ absurd (let spelled = c.command_of.ensures.spelled in let it = w.in-Some-Replay.is in let replay = w.in-Some-Replay.field-0-is in cc)
+  | in-Some-Load w ↦ absurd (let spelled = c.command_of.ensures.spelled in let it = w.in-Some-Load.is in let load = w.in-Some-Load.field-0-is in cc)
+  | in-Some-Nodes w ↦ absurd (let spelled = c.command_of.ensures.spelled in let it = w.in-Some-Nodes.is in let nodes = w.in-Some-Nodes.field-0-is in cc)
+  | in-Some-Conform w ↦ absurd (let spelled = c.command_of.ensures.spelled in let it = w.in-Some-Conform.is in let conform = w.in-Some-Conform.field-0-is in cc)
+  | in-None w ↦ absurd (let spelled = c.command_of.ensures.spelled in let it = w.in-None.is in cc)
+]
+
+pub returns-clause-reports : goal.returns-clause-reports
+returns-clause-reports g c = λ is done. elim c.match-command_of.branch [
+  | in-Some-Adapt w ↦
+      subst (λ o. WroteReports (g.O.Sink.taken c.args.output.now) (g.O.Sink.taken o)) (sym w.output-is)
+      (w.adapt.ensures.reports (sym (ap (λ answer. answer.0.status) w.answer-is) ∙ (sym (ended g c) ∙ done)))
+  | in-Some-Replay w ↦ absurd (let spelled = c.command_of.ensures.spelled in let it = w.in-Some-Replay.is in let replay = w.in-Some-Replay.field-0-is in cc)
+  | in-Some-Load w ↦ absurd (let spelled = c.command_of.ensures.spelled in let it = w.in-Some-Load.is in let load = w.in-Some-Load.field-0-is in cc)
+  | in-Some-Nodes w ↦ absurd (let spelled = c.command_of.ensures.spelled in let it = w.in-Some-Nodes.is in let nodes = w.in-Some-Nodes.field-0-is in cc)
+  | in-Some-Conform w ↦ absurd (let spelled = c.command_of.ensures.spelled in let it = w.in-Some-Conform.is in let conform = w.in-Some-Conform.field-0-is in cc)
   | in-None w ↦ absurd (let spelled = c.command_of.ensures.spelled in let it = w.in-None.is in cc)
 ]
 
@@ -242,6 +331,16 @@ returns-clause-refused g c = λ refused.
           subst (λ (command : Option Command). Refuses command left had (g.O.Sink.taken c.match-command_of.output)) (sym (sym c.command_of.ensures.spelled ∙ (w.in-Some-Replay.is ∙ ap Some w.in-Some-Replay.field-0-is)))
           (subst (λ o. Refuses (Some Replay) left had (g.O.Sink.taken o)) (sym w.output-is)
           (refuses_report left had (g.O.Sink.taken w.replay.new.output) w.replay.result.status (sym (ap (λ answer. answer.0.status) w.answer-is) ∙ (sym (ended g c) ∙ refused)) w.replay.ensures.answers))
+      | in-Some-Adapt w ↦
+          subst (λ (command : Option Command). Refuses command left had (g.O.Sink.taken c.match-command_of.output)) (sym (sym c.command_of.ensures.spelled ∙ (w.in-Some-Adapt.is ∙ ap Some w.in-Some-Adapt.field-0-is)))
+          (subst (λ o. RefusesStages left had (g.O.Sink.taken o)) (sym w.output-is)
+          (refuses_stages left (g.I.Source.has_ended w.adapt.new.input) had (g.O.Sink.taken w.adapt.new.output) w.adapt.result.0.status w.adapt.result.0.closed w.adapt.ensures.answers
+          (sym (ap (λ answer. answer.0.status) w.answer-is) ∙ (sym (ended g c) ∙ refused))))
+      | in-Some-Conform w ↦
+          subst (λ (command : Option Command). Refuses command left had (g.O.Sink.taken c.match-command_of.output)) (sym (sym c.command_of.ensures.spelled ∙ (w.in-Some-Conform.is ∙ ap Some w.in-Some-Conform.field-0-is)))
+          (subst (λ o. RefusesInput left had (g.O.Sink.taken o)) (sym w.output-is)
+          (refuses_log left (g.I.Source.has_ended w.conform.new.input) had (g.O.Sink.taken w.conform.new.output) w.conform.result.status w.conform.ensures.answers
+          (sym (ap (λ answer. answer.0.status) w.answer-is) ∙ (sym (ended g c) ∙ refused))))
       | in-Some-Load w ↦ absurd (no_refusal _ (inr w.load.ensures.ends) (sym (ap (λ answer. answer.0.status) w.answer-is) ∙ (sym (ended g c) ∙ refused)))
       | in-None w ↦ absurd (no_refusal _ (inl w.say.ensures.status) (sym (ap (λ answer. answer.0.status) w.answer-is) ∙ (sym (ended g c) ∙ refused)))
     ]

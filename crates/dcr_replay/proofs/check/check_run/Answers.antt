@@ -2,7 +2,7 @@ use Rattle.std.proofs.Common.{◌≡◌, ◌+◌, [], ◌∷◌, ◌++◌, lengt
 use Rattle.std.specs.Prelude.{IfSome}
 use Rattle.std.proofs.lemmas.Result.{IfOk-weaker}
 use Rattle.dcr_graph.specs.GraphValue.{rules_of}
-use Rattle.dcr_replay.specs.Cut.{line_of}
+use Rattle.dcr_text.specs.Lines.{line_of}
 use Rattle.dcr_replay.specs.EndLines.{ends_after}
 use Rattle.dcr_replay.specs.FirstWrong.{run_from, setting}
 use Rattle.dcr_replay.specs.declared.entries.Run.{Run}

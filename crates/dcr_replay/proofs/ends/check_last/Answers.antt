@@ -3,7 +3,7 @@ use Rattle.std.specs.Prelude.{slice_get}
 use Rattle.dcr_graph.specs.Cause.{waits}
 use Rattle.dcr_report.specs.Report.{verdict_text}
 use Rattle.dcr_report.proofs.LegalLemmas.{waits-below}
-use Rattle.dcr_replay.specs.Cut.{line_of}
+use Rattle.dcr_text.specs.Lines.{line_of}
 use Rattle.dcr_replay.specs.declared.lines.Line.{Line}
 use Rattle.dcr_replay.specs.declared.verdict.Verdict.TheVariants.{Invalid}
 use Rattle.dcr_replay.specs.declared.verdict.Wrong.TheVariants as wrong

@@ -1,6 +1,7 @@
 use Rattle.std.proofs.Common.{◌+◌, ◌∷◌, length, take, rules, arith, sym, ap, ◌∙◌}
 use Rattle.std.proofs.lemmas.List.{take_rest}
-use Rattle.dcr_line.specs.PiecesModel.{pieces_of, pieces_of_rest}
+use Rattle.dcr_text.specs.Lines.{pieces_of}
+use Rattle.dcr_line.specs.PiecesModel.{pieces_of_rest}
 use Rattle.dcr_line.proofs.PiecesLemmas.{pieces_at, pieces_whole}
 use Rattle.dcr_line.proofs.pieces.PiecesIterator.next.Goals as goal
 

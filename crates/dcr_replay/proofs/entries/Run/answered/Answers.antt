@@ -4,7 +4,7 @@ use Rattle.dcr_graph.specs.GraphValue.{Flat, rules_of}
 use Rattle.dcr_journal.specs.Answer.{answer}
 use Rattle.dcr_journal.specs.declared.call.Entry.{Entry}
 use Rattle.dcr_line.specs.Line.{entry_text}
-use Rattle.dcr_replay.specs.Cut.{line_of}
+use Rattle.dcr_text.specs.Lines.{line_of}
 use Rattle.dcr_replay.proofs.AnsweredLemmas.{answered_at, fits_answered}
 use Rattle.dcr_replay.proofs.entries.Run.answered.Goals as goal
 

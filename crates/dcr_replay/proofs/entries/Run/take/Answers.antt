@@ -1,5 +1,5 @@
 use Rattle.std.proofs.Common.{sym, ap, ◌∙◌}
-use Rattle.dcr_replay.specs.Cut.{line_of}
+use Rattle.dcr_text.specs.Lines.{line_of}
 use Rattle.dcr_replay.specs.EntryLines.{judged}
 use Rattle.dcr_replay.proofs.entries.Run.take.Goals as goal
 

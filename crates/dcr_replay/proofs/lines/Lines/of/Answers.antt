@@ -1,6 +1,6 @@
 use Rattle.std.proofs.Common.{rules, ◌<◌, ◌+◌, ◌∷◌, length, drop, take, true, false, sym, ap, ◌∙◌, arith}
 use Rattle.std.proofs.lemmas.List.{take_rest, length-drop}
-use Rattle.dcr_replay.specs.Cut.{line_of, lines_of}
+use Rattle.dcr_text.specs.Lines.{line_of, lines_of}
 use Rattle.dcr_replay.proofs.LinesLemmas.{lines_at, lines_whole, lines_none, unended_is}
 use Rattle.dcr_replay.proofs.lines.Lines.of.Goals as goal
 

@@ -1,7 +1,11 @@
--- A text cut into its lines.
-use Rattle.std.specs.Prelude.{ℕ, Bool, true, false, ◌&&◌, List, [], ◌∷◌, Option, Some, None, if◌then◌else◌}
+-- A text cut into pieces at a separator, and into lines.
+use Rattle.std.specs.Prelude.{ℕ, Bool, true, false, ◌&&◌, ◌==◌, List, [], ◌∷◌, Option, Some, None, if◌then◌else◌}
 use Rattle.std.specs.Str.{bytes_eq}
-use Rattle.dcr_line.specs.PiecesModel.{pieces_of}
+use Rattle.std.specs.List.{slice_split}
+
+-- the pieces of a text, cut at each separator: one at least
+abbrev pub pieces_of : ℕ → List ℕ → List (List ℕ)
+pieces_of separator text = slice_split (λ byte. byte == separator) text
 
 -- the bytes up to a line end; or those behind the last line end, which are a line without its end
 pub record Line : Type 0 where

@@ -1,0 +1,6 @@
+pub mod LineLemmas
+pub mod EachLemmas
+pub mod StageLemmas
+pub mod RefusalLemmas
+pub mod ReadLemmas
+pub mod CarriedLemmas

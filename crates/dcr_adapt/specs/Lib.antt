@@ -1,0 +1,3 @@
+pub mod Carried
+pub mod Stages
+pub mod Refusals

@@ -1,0 +1,7 @@
+use Rattle.dcr_app.proofs.ConformLemmas.{stopped_log}
+use Rattle.dcr_app.proofs.conform.conform_bytes.Goals as goal
+
+pub returns-in-Err-clause-answers : goal.returns-in-Err-clause-answers
+returns-in-Err-clause-answers g c =
+    stopped_log c.args.bytes.now c.parts.result.0.now c.in-Err.stop (g.O.Sink.taken c.args.output.now) (g.O.Sink.taken c.refuse.new.output) c.refuse.result.status
+    c.requires c.parts.ensures.case c.in-Err.ensures.says c.refuse.ensures.wrote c.refuse.ensures.silent
