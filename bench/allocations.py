@@ -1,10 +1,11 @@
 #!/usr/bin/env python3
 """Refuses each allocation of the program in turn, and shows that its calls take no memory.
 
-    bench/allocations.py             four rows: examples/medication.json by `run`, the same by `run --store` in an
-                                     empty folder, its executions by `nodes 5`, and its graph by `serve`, with a
-                                     connection that sends four lines
-    bench/allocations.py trace ROW   each allocation of a row (run, store, nodes, serve): its number, its bytes, and the
+    bench/allocations.py             six rows: examples/medication.json by `run`, the same by `run --store` in an
+                                     empty folder, its executions by `nodes 5`, examples/laboratory.stages by `adapt`,
+                                     examples/medication.log by `conform`, and the graph by `serve`, with a connection
+                                     that sends four lines
+    bench/allocations.py trace ROW   each allocation of a row (run, store, nodes, adapt, conform, serve): its number, its bytes, and the
                                      functions that may have asked for it, the nearest first; calls of the system
                                      stand between
 
@@ -41,6 +42,8 @@ import apart  # noqa: E402
 import linked  # noqa: E402
 import reader  # noqa: E402
 import stored  # noqa: E402
+import carried  # noqa: E402
+import traces  # noqa: E402
 from model import TOP, Case  # noqa: E402
 from trial import DCR, Network, Room, connected, exchanged, told_by, unforeseen, want_program  # noqa: E402
 
@@ -53,8 +56,8 @@ CALLS = re.compile(r"dcr_cluster::cluster::Cluster::(?!open\b)")
 DISK = re.compile(r"dcr_base::file_disk\b")
 
 
-def medication():
-    with open(os.path.join(TOP, "examples/medication.json"), "rb") as file:
+def example(name="medication.json"):
+    with open(os.path.join(TOP, "examples", name), "rb") as file:
         return file.read()
 
 
@@ -85,15 +88,15 @@ class Watched:
 # ---- the rows: each gives the status, the output and the replies
 
 
-def run_row(how, *words, command="run"):
+def run_row(how, *words, command="run", name="medication.json"):
     how = {**how, "stdout": subprocess.PIPE, "stderr": subprocess.PIPE, "timeout": 60}
-    return (*told_by(subprocess.run([DCR, command, *words], input=medication(), **how)), b"")
+    return (*told_by(subprocess.run([DCR, command, *words], input=example(name), **how)), b"")
 
 
 def serve_row(how, lines=tuple(LINES)):
     words = [DCR, "serve", "--sessions", "1", "--workers", "1"]
     with Network.port(), tempfile.TemporaryFile() as file:
-        file.write(medication())
+        file.write(example())
         file.seek(0)
         program = subprocess.Popen(words, stdin=file, stdout=subprocess.PIPE, stderr=subprocess.PIPE, **how)
         link = connected(program)
@@ -103,7 +106,8 @@ def serve_row(how, lines=tuple(LINES)):
     return (program.returncode, wrote, *[said] * bool(said), replies)
 
 
-ROWS = {"run": run_row, "store": lambda how: run_row(how, "--store"), "nodes": lambda how: run_row(how, "5", command="nodes"), "serve": serve_row}
+ROWS = {"run": run_row, "store": lambda how: run_row(how, "--store"), "nodes": lambda how: run_row(how, "5", command="nodes")}
+ROWS.update({"adapt": lambda how: run_row(how, command="adapt", name="laboratory.stages"), "conform": lambda how: run_row(how, command="conform", name="medication.log"), "serve": serve_row})
 
 
 # ---- each allocation refused in turn
@@ -111,7 +115,7 @@ ROWS = {"run": run_row, "store": lambda how: run_row(how, "--store"), "nodes": l
 
 def tapes():
     """Every tape that a beginning of the executions leaves; none, and an empty file, come before the first."""
-    case = Case(medication().decode())
+    case = Case(example().decode())
     tape, begin, _ = stored.begun(case, None)
     found = [None, b"", bytes(tape)]
     for number, execution in enumerate(stored.run(case)[1]):
@@ -123,25 +127,34 @@ def tapes():
 def goes_on(tape):
     """Whether the case is run to its end from this tape."""
     with Room(tape) as room:
-        ran = subprocess.run([DCR, "run", "--store"], input=medication(), stdout=subprocess.PIPE, cwd=room.folder)
-        return (ran.returncode, ran.stdout, room.tape()) == stored.answer(medication(), tape)
+        ran = subprocess.run([DCR, "run", "--store"], input=example(), stdout=subprocess.PIPE, cwd=room.folder)
+        return (ran.returncode, ran.stdout, room.tape()) == stored.answer(example(), tape)
 
 
 def reports_served():
     """The reports of a serving that ended behind its first lines, and the replies to them."""
     found = []
     for count in range(len(LINES) + 1):
-        _, report, told = linked.answer(medication(), [b"".join(line + b"\n" for line in LINES[:count])])
+        _, report, told = linked.answer(example(), [b"".join(line + b"\n" for line in LINES[:count])])
         found.append((report, told[0]))
     return found
+
+
+def whole(row):
+    """What a row writes where nothing fails."""
+    if row == "adapt":
+        return carried.answer(example("laboratory.stages"))[1]
+    if row == "conform":
+        return traces.answer(example("medication.log"))[1]
+    return (apart.answer(example(), 5) if row == "nodes" else reader.answer(example()))[1]
 
 
 def is_unkept(wrote, tape):
     """Whether this is written, and left on the tape, where the disk fails at its opening or at an execution."""
     if not wrote:
         return tape in tapes()[:3]
-    stops = dict(stored.stops(medication(), None))
-    return wrote in stops and stored.is_near(tape, Case(medication().decode()), stops[wrote])
+    stops = dict(stored.stops(example(), None))
+    return wrote in stops and stored.is_near(tape, Case(example().decode()), stops[wrote])
 
 
 def wrong(row, seen):
@@ -153,7 +166,7 @@ def wrong(row, seen):
         return "the tape can't be gone on from"
     if row == "store" and status == DISK_FAULT:
         return None if is_unkept(wrote, seen.tape) else "a fault of the disk with another report or tape"
-    wholes = reports_served() if row == "serve" else [((apart.answer(medication(), 5) if row == "nodes" else reader.answer(medication()))[1], b"")]
+    wholes = reports_served() if row == "serve" else [(whole(row), b"")]
     if status not in (DONE, NO_MEMORY):
         return "status %d" % status
     if status == DONE and (wrote, replies) != wholes[-1]:

@@ -9,6 +9,7 @@ The kinds:
     replay     reports, changed likewise: the first wrong line and its kind, or that they are valid (replay.py)
     store      tapes of both versions in the file dcr.tape, changed likewise: the report or the refusal, and the file's
                bytes behind the run (stored.py)
+    conform    cases with an event log behind them, changed likewise: a line for each trace, or the refusal's (traces.py)
     serve      what one to three connections send: each byte of the replies, and the report (linked.py)
     outside    the same commands where memory, output, input, disk, port or connections fail: no status but those of
                docs/FORMATS.md, with what the table says was written (outside.py, outside_disk.py, outside_link.py)
@@ -16,7 +17,7 @@ The kinds:
 
 Before the random inputs each kind tries some that stand at the limits. The counts that are printed at the end say how
 many inputs got which answer. The status is 1 at the first input that is answered otherwise than by the model: it is
-then written to files in the current folder, a case or a report also to one that is as small as was found, and both
+then written to files in the current folder, a case, a report or a log also to one that is as small as was found, and both
 answers are printed. Input K of a seed is the same whatever COUNT and N are.
 
 The program is `crates/dcr/out/dcr`, or the one that the environment variable DCR names. `serve` and `outside` have a
@@ -41,6 +42,7 @@ import outside_link  # noqa: E402
 import reader  # noqa: E402
 import replay  # noqa: E402
 import stored  # noqa: E402
+import traces  # noqa: E402
 from trial import Network, Room, Trial, dcr, serve, show, want_program  # noqa: E402
 
 # How many inputs a process takes at a time.
@@ -124,6 +126,19 @@ def label_of_store(wanted, tape):
     return "gone on from version %d%s" % (tape[7], ", renewed before" if tape[7] == 1 and tape[40] == 1 else "")
 
 
+def try_conform(draw, edge=None):
+    data = inputs.changed_log(draw) if edge is None else edge
+    wanted = traces.answer(data)
+    labels = [label_of_line(wanted[1])] if wanted[0] else [label_of_trace(line) for line in wanted[1].decode().split("\n")[:-1]]
+    return Trial(labels, {"log": data}, dcr(["conform"], data), wanted)
+
+
+def label_of_trace(line):
+    """What the line of a trace is counted as: its answer, and of one that is refused the cause."""
+    words = line.split(" ")
+    return "a log" if len(words) == 2 else "trace " + words[1] + (" " + words[3] if words[1] == "refused" else "")
+
+
 def try_serve(draw, edge=None):
     text, links = edge or inputs.changed_links(draw)
     wanted = linked.answer(text, links)
@@ -151,6 +166,7 @@ TRIED = {
     "run": try_run,
     "replay": try_replay,
     "store": try_store,
+    "conform": try_conform,
     "serve": try_serve,
     "outside": try_outside,
 }
@@ -158,6 +174,7 @@ EDGES = {
     "run": inputs.edges_of_run,
     "replay": inputs.edges_of_replay,
     "store": inputs.edges_of_store,
+    "conform": inputs.edges_of_conform,
     "serve": inputs.edges_of_serve,
 }
 
@@ -188,7 +205,7 @@ def tried(task):
         complaint = trial.complaint()
         if complaint:
             found = trial.inputs
-            if kind in ("run", "replay") and len(*found.values()) < MOST_MADE_SMALLER:
+            if kind in ("run", "replay", "conform") and len(*found.values()) < MOST_MADE_SMALLER:
                 found["smaller"] = smaller(kind, *found.values())
             return counts, ("hostile-%s-%d-%d" % (kind, seed, number), found, trial.told, complaint)
     return counts, None

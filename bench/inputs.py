@@ -1,4 +1,4 @@
-"""What hostile.py gives: case files, reports, tapes and links, mostly changed, and such as stand at a limit."""
+"""What hostile.py gives: case files, reports, tapes, links and event logs, mostly changed, and such as stand at a limit."""
 
 import json
 
@@ -324,3 +324,85 @@ def edges_of_serve():
     yield text, [b"x\n" * 200_000]
     yield text, [b"x\n" * 200_000 + b"x"]
     yield text, [b"accepting\n" * 199_999, b"accepting\nx\naccepting\naccepting\n", b"accepting\n", b"x\n"]
+
+
+# ---- event logs
+
+TRACE_NAMES = [b"c1", b"c2", b"c3", b"1", b"A.b-_", b"-", b"traces", b"x" * 64]
+NO_NAMES = [b"", b"c 1", b"c\xc3\xa9", b"x" * 65, b"c1 ", b'"', b"\xef\xbb\xbfc1", b"c,1"]
+NO_EVENTS = [b"", b"zz", b"E0", b" e0", b"e0 ", b"e0,e1", b'e"0', b"e\n0", b"\xff", b"e0\xc3", b"\xc3\xa9"]
+FURTHER = [b"", b"x", b"\xff", b'a "b", c', b"a\r\nb", b"\xef\xbb\xbf"]
+
+
+def events_of(draw, file):
+    """The events of a trace: executions that can be done one after the other, of which some are others."""
+    case = Case(file)
+    names = [case.atoms[event].encode() for event, _ in executed(draw, case, draw.choice((0, 1, 2, 3, 5, 8)))]
+    for _ in range(draw.choice((0, 0, 1, 1, 2))):
+        other = draw.choice(case.events)["name"].encode() if draw.random() < 0.7 else draw.choice(NO_EVENTS)
+        names.insert(draw.randint(0, len(names)), other)
+    return names
+
+
+def spelt(draw, field):
+    """A field, in quotes where it must be, and else sometimes."""
+    if any(byte in b',"\r\n' for byte in field) or draw.random() < 0.1:
+        return b'"' + field.replace(b'"', b'""') + b'"'
+    return field
+
+
+def log_of(draw, file):
+    """A log whose traces are runs of the case, or nearly: the one behind the other, or mixed."""
+    names = draw.sample(TRACE_NAMES, draw.randint(0, 5))
+    if draw.random() < 0.1:
+        names.append(draw.choice(NO_NAMES))
+    rows = [[name, event] for name in names for event in events_of(draw, file)]
+    if draw.random() < 0.5:
+        draw.shuffle(rows)
+    more = [b"note"] * draw.choice((0, 0, 0, 1, 2))
+    rows = [[b"case", b"event", *more], *[[*row, *[draw.choice(FURTHER) for _ in more]] for row in rows]]
+    ends = draw.choice(([b"\n"], [b"\n"], [b"\r\n"], [b"\r"], [b"\n", b"\r\n", b"\r", b"\n\n", b"\n\r"]))
+    text = b"".join(b",".join(spelt(draw, field) for field in row) + draw.choice(ends) for row in rows)
+    return draw.choice((b"", b"", b"", b"\xef\xbb\xbf", b"\n")) + (text if draw.random() < 0.8 else text.rstrip(b"\r\n"))
+
+
+def change_fields(draw, log):
+    """Of one line a field is dropped, doubled, exchanged with one of another line, or another separator stands before it."""
+    lines = log.split(b"\n")
+    at = draw.randrange(len(lines))
+    fields, others = lines[at].split(b","), draw.choice(lines).split(b",")
+    k, way = draw.randrange(len(fields)), draw.randrange(5)
+    if way == 0:
+        del fields[k]
+    elif way == 1:
+        fields.insert(k, fields[k])
+    elif way == 2:
+        fields[k] = draw.choice(others)
+    elif way == 3:
+        fields[k] = draw.choice([*NO_NAMES, *NO_EVENTS, *FURTHER, b'"' + fields[k], fields[k] + b'"'])
+    else:
+        fields[k : k + 2] = [draw.choice((b";", b"\t", b", ", b",,", b'","')).join(fields[k : k + 2])]
+    lines[at] = b",".join(fields)
+    return b"\n".join(lines)
+
+
+def changed_log(draw):
+    """An input of `conform`: a case on one line and a log, mostly changed."""
+    file, _ = accepted_case(draw)
+    text, log = file.encode(), log_of(draw, file)
+    for _ in range(draw.choice((0, 0, 1, 1, 1, 2))):
+        log = draw.choice((mutate.change_bytes, mutate.change_lines, change_fields, change_fields))(draw, log)
+    if draw.random() < 0.06:
+        text = draw.choice((mutate.change_bytes, mutate.change_json))(draw, text)
+    return text + draw.choice((b"\n",) * 40 + (b"", b"\r\n", b"\n\n", b"\r")) + log
+
+
+def edges_of_conform():
+    front = at_limit("calls", 3) + b"\ncase,event"
+    for more in (0, 1):
+        yield front + b"\n" * (reader.MOST_BYTES - len(front) + more)
+        yield front + b"\nc,e0" * ((reader.MOST_BYTES - len(front)) // 5) + b"\n" * more
+    yield b"\n".join([front, *[b"%d,e0" % k for k in range(1_200_000)]])
+    yield front[:-11] + b"\n" * 2 + front[-10:]
+    yield b" " * (reader.MOST_BYTES + 1)
+    yield b""

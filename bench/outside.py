@@ -19,6 +19,7 @@ import mutate
 import reader
 import replay
 import stored
+import traces
 from model import Case, random_case
 from trial import DCR, PLACE, Room, Trial, dcr, told_by
 
@@ -30,7 +31,7 @@ class Asked:
     """A command and its input, with the status, the output and the tape that it comes to where nothing fails."""
 
     def __init__(self, draw, *commands):
-        self.words = draw.choice(commands or [["run"], ["run", "--workers", "4"], ["run", "--store"], ["replay"]])
+        self.words = draw.choice(commands or [["run"], ["run", "--workers", "4"], ["run", "--store"], ["replay"], ["conform"]])
         text, case = inputs.accepted_case(draw)
         self.text, self.old = text.encode(), None
         if "--workers" in self.words:
@@ -39,6 +40,8 @@ class Asked:
             self.text = json.dumps({**file, "sessions": [sum(file["sessions"], [])]}).encode()
         if self.words == ["replay"]:
             self.text = case.report().encode()
+        if self.words == ["conform"]:
+            self.text = inputs.changed_log(draw)
         if draw.random() < 0.15:
             self.text = mutate.change_bytes(draw, self.text)
         self.is_stored = self.words[-1] == "--store"
@@ -50,6 +53,8 @@ class Asked:
         if self.words == ["replay"]:
             line = replay.check(self.text).encode()
             return (DONE if line.startswith(b"valid") else INVALID), line, None
+        if self.words == ["conform"]:
+            return (*traces.answer(self.text), None)
         if self.is_stored:
             return stored.answer(self.text, self.old)
         return (*reader.answer(self.text), None)
@@ -223,7 +228,7 @@ def file_room(room):
 
 def short_output(draw):
     """A file that may not grow past some bytes."""
-    asked = Asked(draw, ["run"], ["replay"])
+    asked = Asked(draw, ["run"], ["replay"], ["conform"])
     room = draw.choice((0, 1, draw.randrange(len(asked.wanted[1]) + 2)))
     with tempfile.TemporaryFile(dir=PLACE) as file:
         told = asked_with(asked, stdout=file, restore_signals=False, preexec_fn=lambda: file_room(room))
@@ -277,8 +282,8 @@ def failed_input(draw):
 
 def wrong_words(draw):
     """Words at random; an input that is no case, so that none of them waits for anybody."""
-    known = "run serve replay --workers --sessions --store --store 1 2 64 65 0 02 1024 1025 +1 -1 é".split() + [""]
-    starts = [["run"], ["run", "--workers", "4"], ["replay"], ["serve", "--sessions", "1", "--workers", "1"], []]
+    known = "run serve replay conform --workers --sessions --store --store 1 2 64 65 0 02 1024 1025 +1 -1 é".split() + [""]
+    starts = [["run"], ["run", "--workers", "4"], ["replay"], ["conform"], ["serve", "--sessions", "1", "--workers", "1"], []]
     words = draw.choice(starts) + draw.choices(known, k=draw.choice((0, 0, 1, 1, 2, 3)))
     if words and draw.random() < 0.5:
         words[draw.randrange(len(words))] = draw.choice(known)
@@ -292,7 +297,7 @@ def wrong_words(draw):
 
 
 def command_of(words):
-    """What the words spell: run (or serve, which answers the same to no case), replay, or nothing."""
+    """What the words spell: run (or serve and conform, which answer the same to no case), replay, or nothing."""
 
     def is_number(word, most):
         return word.isdigit() and not word.startswith(b"0") and int(word) <= most
@@ -300,6 +305,8 @@ def command_of(words):
     rest = words[1:]
     if words[:1] == [b"replay"] and not rest:
         return "replay"
+    if words == [b"conform"]:
+        return "run"
     if words[:1] == [b"serve"]:
         if rest[0:3:2] != [b"--sessions", b"--workers"] or len(rest) < 4:
             return None

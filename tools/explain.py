@@ -4,24 +4,33 @@
     tools/explain.py CASE                        whether dcr takes the file; the members that it passes over, what is odd
     tools/explain.py CASE refused 6 parent 0     the place that this line tells of
     ./dcr run < CASE | tools/explain.py CASE -   the same, the line read from standard input
+    tools/explain.py STAGES case 1 refused ..    the same of one of several cases, each on a line, as `dcr adapt` reads them
     tools/explain.py REPORT invalid 6 outcome    the line of a report that `replay` tells of
     tools/explain.py CASE tape other-case        why `dcr.tape` in the current folder is refused
+    tools/explain.py INPUT refused 15 log 3      the record of an input of `conform`; and its case, whose line stands first
 
 Each place is FILE:LINE:COLUMN, counted from 1, with the text that stands there. Of a file alone it finds out by itself
 why dcr would refuse it, by the plain reader (reader.py). Of one that dcr takes it tells what is legal and hardly meant:
 members that are passed over, events that can never be executed, sessions without calls; and as remarks what is odd only
-where it isn't meant, such as an event of several sites. The status is 0 where nothing but remarks is told, 1 where a
-place is, and 2 where the words are others, the file is missing, or it isn't the one that the line tells of.
+where it isn't meant, such as an event of several sites. Of several cases on lines, which it knows by their first line, it
+tells marks too that are passed over, since their event stood on the line before and goes on with those that it has. The
+status is 0 where nothing but remarks is told, 1 where a place is, and 2 where the words are others, the file is missing,
+or it isn't the one that the line tells of.
 """
 
 import difflib
 import sys
 
+import carried
+import earlier
 import odd
 import reader
 import replay
+import traces
 from case import KINDS, MEMBERS, NAME, File, NotJson, parse, place
 from command import Usage, Wrong, command, read_bytes
+from explain_log import case_of, tell_log, tell_second_line
+from stages import HEADS, is_json, is_several, lines_of
 
 # What other tools and papers call a kind of relation.
 OF_THE_FIELD = {
@@ -43,13 +52,17 @@ class Told:
         self.at, self.end, self.wrong, self.rule, self.mend, self.others = value.at, value.end, wrong, rule, mend, others
 
 
-def near(word, words):
-    """A hint at the word that was probably meant; capitals count for nothing in it."""
-    if not isinstance(word, str):
-        return ""
+def closest(word, words):
+    """The word that was probably meant, or None; capitals count for nothing in it."""
     every = {it.lower(): it for it in words if isinstance(it, str)}
-    found = difflib.get_close_matches(word.lower(), every, 1, 0.6)
-    return "; did you mean `%s`?" % every[found[0]] if found else ""
+    found = difflib.get_close_matches(word.lower(), every, 1, 0.6) if isinstance(word, str) else []
+    return every[found[0]] if found else None
+
+
+def near(word, words):
+    """A hint at that word."""
+    found = closest(word, words)
+    return "; did you mean `%s`?" % found if found is not None else ""
 
 
 def misspelt(member, value):
@@ -321,6 +334,8 @@ def changed_on_the_way(data):
         return "its line ends were changed (there are CRs): ask for the file packed, or take the CRs out"
     if data.lstrip()[:1] == b"{":
         return "this looks like a case file, which is run and not replayed"
+    if len(HEADS.findall(data)) > 1:
+        return "these are several reports, as `dcr adapt` writes them: tools/stages.py --cut FOLDER FILE cuts them apart"
     return None
 
 
@@ -353,9 +368,8 @@ def tell_passed_over(path, text, file):
     return len(found)
 
 
-def tell_odd(path, text, file):
+def tell_odd(path, text, found):
     """Tells what is odd in a file that dcr takes, and answers how many things are more than remarks."""
-    found = odd.oddities(file, text)
     for it in found:
         print("%s:%d:%d: %s%s" % (path, *place(text, it.at), "remark: " if it.is_remark else "", it.why))
         for value, why in it.others:
@@ -367,12 +381,18 @@ def tell_odd(path, text, file):
 def explain_refusal(path, data, words):
     """Tells the place of a refusal. Answers 1."""
     if words[1] == "1":
-        print("%s: %d bytes\n  rule: A case has at most %d bytes, a report at most %d.\n  mend: split the case, or shorten its labels" % (path, len(data), reader.MOST_BYTES, replay.MOST_BYTES))
+        print("%s: %d bytes\n  rule: A case has at most %d bytes, also with a log behind it, a report at most %d.\n  mend: split the case, or shorten its labels; a log is split by tools/from_log.py --parts" % (path, len(data), reader.MOST_BYTES, replay.MOST_BYTES))
+        return 1
+    if words[1] == "15":
+        tell_log(path, data, int(words[3]))
         return 1
     try:
-        top, text = parse(data)
+        top, text = parse(case_of(data))
     except NotJson as error:
-        tell_not_json(path, data.decode(errors="replace"), error)
+        if not tell_second_line(path, data):
+            tell_not_json(path, case_of(data).decode(errors="replace"), error)
+        if is_several(data):
+            print("  or: these are %d cases, each on a line, as `dcr adapt` reads them" % len(lines_of(data)))
         return 1
     if words[2] == "not-json":
         raise Wrong("%s: it is JSON: is it the file that dcr was given?" % path)
@@ -383,16 +403,123 @@ def explain_refusal(path, data, words):
 
 def explain_alone(path, data):
     """Whether dcr takes the file, and what is odd in it."""
+    file, log = case_of(data), None
     try:
-        reader.read_case(data)
+        reader.read_case(file)
+        if file is not data:
+            log = traces.read_log(data[len(file) + 1 :])
     except reader.Refused as refusal:
         print("%s: dcr refuses it: %s" % (path, refusal))
         return explain_refusal(path, data, str(refusal).split())
-    top, text = parse(data)
+    top, text = parse(file)
     passed = tell_passed_over(path, text, File(top))
     if not passed:
-        print("%s: dcr takes it, and passes over no member" % path)
-    return 1 if tell_odd(path, text, File(top)) + passed else 0
+        print("%s: dcr takes it%s, and passes over no member" % (path, "" if log is None else " with a log of %d traces" % len(log)))
+    return 1 if tell_odd(path, text, odd.oddities(File(top), text)) + passed else 0
+
+
+# ---- several cases, each on a line, as `dcr adapt` reads them
+
+ON_LINES = "`dcr adapt` reads 1 to 16 cases, each on a line of its own. An empty line counts too."
+KEPT = "An event that is no nest stands, by its name and as no nest, in each later case too: a case adds events, and leaves none out."
+PUT_ON_LINES = "`tools/stages.py FIRST SECOND > FILE` puts case files on a line each"
+
+
+def of_dropped(before, line, name):
+    """The place where the case of a line lacks an event, and where that stood on the line before."""
+    stood = (before.event(name), "it stands here on the line before")
+    if name in line.file.names:
+        child = next(event for event, parent in zip(line.file.events, line.file.parents) if parent == name)
+        wrong = "`%s` is a nest here, and was none before" % name
+        return Told(line.event(name), wrong, KEPT, "give the nest another name, and leave `%s` an event in it or beside it" % name, (child.get("parent"), "this makes it one"), stood)
+    meant = closest(name, [it for it in line.file.names if it not in before.file.names])
+    wrong = "no event has the name `%s` here%s" % (name, "; is `%s` the same one?" % meant if meant else "")
+    mend = 'write {"name":"%s"} among these events, and the name at a site; an event that nobody wants any more stays and is excluded by another one' % name
+    if meant:
+        mend = 'an event is known by its name: keep the name `%s`, and write the other text as its "label"; else %s' % (name, mend)
+    return Told(line.file.graph.get("events"), wrong, KEPT, mend, stood)
+
+
+def tell_old_marks(path, before, line):
+    """Tells the marks of old events that are passed over, and answers how many aren't those of the line before."""
+    found = sorted(earlier.passed_over(before, line), key=lambda it: it[2])
+    others = [it for it in found if not it[3]]
+    for name, mark, at, _ in others:
+        print("%s:%d:%d: dcr passes over the mark `%s` of `%s`, which stands on the line before and goes on with the marks that it has" % (path, *place(line.text, at), mark, name))
+    if others:
+        print("  mend: take it out; an execution changes marks, such as one of a new event that includes, excludes or cancels")
+    same = [it for it in found if it[3]]
+    if same:
+        names = ", ".join("`%s`" % it for it in dict.fromkeys(it[0] for it in same))
+        print("%s:%d:%d: remark: marks that stand on the line before too are passed over here, of %s" % (path, *place(line.text, same[0][2]), names))
+    return len(others)
+
+
+def explain_count(path, data, count):
+    """Tells how cases are put on lines. Answers 1."""
+    lines = lines_of(data)
+    if len(lines) != int(count):
+        raise ValueError
+    what = "this is one case over %d lines" % len(lines) if is_json(data) else "%d lines" % len(lines)
+    print("%s: %s" % (path, what if lines else "the file is empty"))
+    empty = ["%d" % number for number, line in enumerate(lines, 1) if not line.strip()]
+    if empty and not is_json(data):
+        print("  empty are the lines %s%s" % (", ".join(empty[:8]), ", .." if empty[8:] else ""))
+    mend = PUT_ON_LINES
+    if len(lines) > 16 and not is_json(data):
+        mend += "; where there are more than 16, leave one out without calls: the next one may add what it adds"
+    print("  rule: %s\n  mend: %s" % (ON_LINES, mend))
+    return 1
+
+
+def tell_dropped(path, data, number, name):
+    """Tells where the case of a line lacks an event of the one before."""
+    try:
+        before, line = earlier.Line(data, number - 1), earlier.Line(data, number)
+    except NotJson:
+        raise ValueError from None
+    if number == 0 or name not in before.file.atoms or name in line.file.atoms:
+        raise ValueError
+    tell(path, data.decode(errors="replace"), of_dropped(before, line, name))
+
+
+def explain_stage(path, data, words):
+    """Tells the place of a refusal of one of several cases. Answers 1."""
+    number, lines = int(words[1]), lines_of(data)
+    if number not in range(len(lines)):
+        raise IndexError
+    print("%s:%d: case %d stands on this line; they are counted from 0" % (path, number + 1, number))
+    if words[3] == "13":
+        tell_dropped(path, data, number, words[5])
+    elif words[4] == "not-json" and len(lines) > 1 and is_json(data):
+        print("  it is no case by itself: the file is one case over %d lines\n  rule: %s\n  mend: %s" % (len(lines), ON_LINES, PUT_ON_LINES))
+    elif words[4] == "not-json" and not lines[number].strip():
+        print("  the line is empty\n  rule: %s\n  mend: take the line out" % ON_LINES)
+    else:
+        explain_refusal(path, earlier.padded(data, number), words[2:])
+        if words[4] == "not-json":
+            print("  and: %s" % ON_LINES)
+    return 1
+
+
+def explain_stages(path, data):
+    """Whether dcr adapt takes these cases, and what is odd in them."""
+    try:
+        cases = carried.read_stages(data)
+    except reader.Refused as refusal:
+        print("%s: dcr adapt refuses it: %s" % (path, refusal))
+        return explain(path, str(refusal).split())
+    print("%s: dcr adapt takes it: %d cases, each on a line" % (path, len(cases)))
+    found, before = 0, None
+    for number, (_, case) in enumerate(carried.opened(cases)):
+        line, old = earlier.Line(data, number), set()
+        found += tell_passed_over(path, line.text, line.file)
+        if before is not None:
+            found += tell_old_marks(path, before, line)
+            old = {event.at for event in line.old_events(before)}
+        found += tell_odd(path, line.text, [it for it in odd.oddities(line.file, line.text, case) if it.at not in old])
+        before = line
+    return 1 if found else 0
 
 
 def explain(path, words):
@@ -403,12 +530,16 @@ def explain(path, words):
     if words[:1] == ["invalid"]:
         tell_invalid(path, data, int(words[1]), words[2])
         return 1
+    if words[:1] == ["case"]:
+        return explain_stage(path, data, words)
+    if words[:3] == ["refused", "14", "cases"]:
+        return explain_count(path, data, words[3])
     if words[:1] == ["refused"]:
         return explain_refusal(path, data, words)
     if words:
         print("dcr found nothing to refuse: %s" % " ".join(words))
         return 0
-    return explain_alone(path, data)
+    return explain_stages(path, data) if is_several(data) and case_of(data) is data else explain_alone(path, data)
 
 
 @command(__doc__)

@@ -113,9 +113,9 @@ def line_ends(text, top):
         yield Odd(top, "the line ends are %s, as other systems write them: dcr takes them in a case, and not in a report" % kind, "leave them, or have the editor write LF", is_remark=True)
 
 
-def oddities(file, text):
-    """What is odd in an accepted case, in the order of the file."""
-    case = Case(text)
+def oddities(file, text, case=None):
+    """What is odd in an accepted case, in the order of the file; of one that opens otherwise than its file says as it opens."""
+    case = case or Case(text)
     reach = Reach(case)
     found = [*never_executed(file, reach), *waits_for_itself(file, reach), *sites_and_sessions(file, case), *line_ends(text, file.top)]
     return sorted(found, key=lambda it: it.at)

@@ -270,8 +270,8 @@ def is_call(case, text):
     return is_at and (len(words) < 3 or words[2] in case.number)
 
 
-def read_case(data):
-    """The case that the bytes spell."""
+def read_case(data, kind=Case):
+    """The case that the bytes spell, as a model of this kind."""
     refuse(len(data) > MOST_BYTES, 1, "too-long")
     try:
         file = read_json(data)
@@ -281,7 +281,7 @@ def read_case(data):
     file = named(file)
     try_limits(file)
     try_nodes(file["graph"])
-    case = Case(json.dumps(file))
+    case = kind(json.dumps(file))
     clashes = case.pairs["include"] & case.pairs["exclude"]
     for a, b in sorted(clashes, key=lambda pair: (case.number[pair[0]], case.number[pair[1]])):
         refuse(True, 9, "clash", a, b)

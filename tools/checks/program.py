@@ -66,7 +66,8 @@ def check_words_that_are_no_command_are_usage():
     lines += [["replay", "replay"], [b"\xff"], [b"run\xff"], [b"\xffrun"], ["run", b"\xff"], [b"\xff", "run"], ["replay", b"\xc3"]]
     lines += [["run", "--workers", it] for it in ("0", "02", "65", "-1", "+2", "2 ", "", "4294967297", "two", "--store")]
     lines += [["run", "--workers"], ["run", "--workers=2"], ["run", "--store", "--workers", "2"], ["run", "--store", "--store"], ["run", "--workers", "2", "--workers", "2"]]
-    lines += [["run", "--workers", "2", "store"], ["run", "--workers", "2", "--store", "x"], ["--store", "run"], ["replay", "--store"], ["load"], ["load", "-1"], ["load", "07"], ["load", "4294967296"], ["load", "7", "7"], ["serve"]]
+    lines += [["run", "--workers", "2", "store"], ["run", "--workers", "2", "--store", "x"], ["--store", "run"], ["replay", "--store"], ["load"], ["load", "-1"], ["load", "07"], ["load", "4294967296"], ["load", "7", "7"], ["serve"], ["adapt", "adapt"], ["adapt", ""], ["adapt", "--store"], ["adapt", "--workers", "1"]]
+    lines += [["conform", ""], ["conform", "x"], ["conform", "--store"], ["conform", "conform"], ["Conform"], ["run", "conform"], ["conform "], ["conform", b"\xff"]]
     for words in lines:
         told = dcr(*words, given=read("examples/first.json"))
         want(told == (USAGE, b"usage\n", b""), "%s gives %s" % (words, told))
@@ -123,6 +124,7 @@ def check_what_is_too_long_is_refused():
 
 def check_no_bytes_are_refused_or_invalid():
     want(dcr("run") == (REFUSED, b"refused 2 not-json\n", b""), "run")
+    want(dcr("adapt") == (REFUSED, b"refused 14 cases 0\n", b""), "adapt")
     want(dcr("replay") == (INVALID, b"invalid 1 head\n", b""), "replay")
 
 
@@ -273,20 +275,20 @@ def check_a_tape_that_may_not_grow_ends_the_run():
 
 
 def check_a_folder_as_input_is_a_read_fault():
-    for word in ["run", "replay"]:
+    for word in ["run", "replay", "conform", "adapt"]:
         told = in_shell('"$@" <"%s"' % EXAMPLES, word, stdin=subprocess.DEVNULL)
         want(told == (READ_FAULT, b"", b"dcr: the input failed as it was read; nothing was written\n"), "%s gives %s" % (word, told))
 
 
 def check_an_input_that_can_only_be_written_is_a_read_fault():
     with tempfile.NamedTemporaryFile() as file:
-        for word in ["run", "replay"]:
+        for word in ["run", "replay", "conform", "adapt"]:
             told = in_shell('"$@" 0>"%s"' % file.name, word, stdin=subprocess.DEVNULL)
             want(told[:2] == (READ_FAULT, b""), "%s gives %s" % (word, told))
 
 
 def check_a_read_that_would_block_is_a_read_fault():
-    for word in ["run", "replay"]:
+    for word in ["run", "replay", "conform", "adapt"]:
         ends = os.pipe()
         os.set_blocking(ends[0], False)
         told = dcr(word, stdin=ends[0], seconds=60)
@@ -296,7 +298,7 @@ def check_a_read_that_would_block_is_a_read_fault():
 
 
 def check_a_closed_input_is_no_case():
-    for word, lines in [("run", (READ_FAULT, b"")), ("replay", (READ_FAULT, b""))]:
+    for word, lines in [("run", (READ_FAULT, b"")), ("replay", (READ_FAULT, b"")), ("conform", (READ_FAULT, b"")), ("adapt", (READ_FAULT, b""))]:
         told = in_shell('exec "$@" <&-', word, stdin=subprocess.DEVNULL)
         want(told[:2] == lines, "%s gives %s" % (word, told))
 
@@ -358,7 +360,8 @@ def check_a_full_device_as_output_is_a_write_fault():
     if not os.path.exists("/dev/full"):
         raise NotTried("there is no /dev/full")
     inputs = [(["run"], read("examples/first.json")), (["run"], large_case()), (["run"], b"{"), (["replay"], read("examples/first.report"))]
-    inputs += [(["replay"], wrong_report()), ([], b""), (["run", "x"], b""), ([b"\xff"], b"")]
+    inputs += [(["adapt"], read("examples/laboratory.stages")), (["adapt"], b""), (["replay"], wrong_report()), ([], b""), (["run", "x"], b""), ([b"\xff"], b"")]
+    inputs += [(["conform"], read("examples/medication.log")), (["conform"], read("examples/refused/15-log.csv")), (["conform"], b"{")]
     for words, given in inputs:
         with open("/dev/full", "wb") as full:
             told = dcr(*words, given=given, stdout=full)
@@ -366,13 +369,13 @@ def check_a_full_device_as_output_is_a_write_fault():
 
 
 def check_an_output_that_can_only_be_read_is_a_write_fault():
-    for words, given in [(["run"], read("examples/first.json")), (["replay"], read("examples/first.report")), ([], b"")]:
+    for words, given in [(["run"], read("examples/first.json")), (["replay"], read("examples/first.report")), (["conform"], read("examples/medication.log")), ([], b"")]:
         told = in_shell('exec "$@" 1</dev/null', *words, given=given)
         want(told[0] == WRITE_FAULT, "%s gives status %d" % (words, told[0]))
 
 
 def check_a_closed_output_is_a_write_fault():
-    for words, given in [(["run"], read("examples/first.json")), (["replay"], read("examples/first.report")), ([], b"")]:
+    for words, given in [(["run"], read("examples/first.json")), (["replay"], read("examples/first.report")), (["conform"], read("examples/medication.log")), ([], b"")]:
         told = in_shell('exec "$@" >&-', *words, given=given)
         want(told[0] == WRITE_FAULT, "%s gives status %d" % (words, told[0]))
 

@@ -33,10 +33,12 @@ from checks.program import PROGRAM, prepare  # noqa: F401
 
 sys.path[:0] = [os.path.join(TOP, "tools"), os.path.join(TOP, "bench")]
 import apart  # noqa: E402
+import carried  # noqa: E402
 import load  # noqa: E402
 import reader  # noqa: E402
 import replay  # noqa: E402
 import stored  # noqa: E402
+import traces  # noqa: E402
 
 TABLE = os.path.join(TOP, "crates/dcr_cases/stdin")
 # The most bytes of an input that a model reads within a second or so.
@@ -63,7 +65,7 @@ def once(text, pieces):
     for part in parts[1:]:
         if part.startswith("n"):
             found += b"\n" + part[1:].encode()
-        elif part.startswith("x"):
+        elif part.startswith("x") and part[1:3] == part[1:3].lower():
             found += bytes([int(part[1:3], 16)]) + part[3:].encode()
         else:
             name, _, rest = part[1:].partition("}")
@@ -188,6 +190,10 @@ def modelled(row, given):
         return 0, load.line_of(int(row.words[1])).encode()
     if row.words[:1] == ["nodes"]:
         return apart.answer(given, int(row.words[1]))
+    if row.words[:1] == ["conform"]:
+        return traces.answer(given)
+    if row.words == ["adapt"]:
+        return carried.answer(given)
     if row.tape is not None:
         return stored.answer(given, row.tape or None)[:2]
     return reader.answer(given)
