@@ -209,15 +209,16 @@ runs_none case M rest before had = record {
   reach = 0;
   far = omega arith;
   near = omega arith;
+  cut = λ failed. absurd (let wrong : NoMemory ≡ WriteFault = failed in cc);
   front = appends_nothing had;
   legal = no_legal;
 }
 
 -- one, of which so much of the report was written
 runs_one : (s : Stage) (rest : List Stage) (closed : Closed) (before : Option Closed) (had took : Option (List ℕ)) (status : Status) (n : ℕ) → (status ≡ Done → 1 ≡ length (s ∷ rest)) → IsRunOfStage s closed
-    → IsReport (report_of s) (length (history_of s)) → Wrote Done (reports_of (s ∷ rest)) status had took → n ≤ length (report_of s) → Appends had took (take n (report_of s))
+    → IsReport (report_of s) (length (history_of s)) → Wrote Done (reports_of (s ∷ rest)) status had took → n ≤ length (report_of s) → (status ≡ WriteFault → n < length (report_of s)) → Appends had took (take n (report_of s))
     → RunsStages (s ∷ rest) before had took status (Some closed)
-runs_one s rest closed before had took status n all ran legal wrote within front =
+runs_one s rest closed before had took status n all ran legal wrote within cut front =
     let same : report_of s ++ [] ≡ report_of s = append-nil (report_of s) in record {
       count = 1;
       within = omega arith;
@@ -227,6 +228,7 @@ runs_one s rest closed before had took status n all ran legal wrote within front
       reach = n;
       far = omega arith;
       near = subst (λ (l : List ℕ). n ≤ length l) (sym same) within;
+      cut = λ failed. subst (λ (l : List ℕ). n < length l) (sym same) (cut failed);
       front = subst (λ (l : List ℕ). Appends had took (take n l)) (sym same) front;
       legal = All-cons (λ (x : Stage). IsReport (report_of x) (length (history_of x))) s [] legal no_legal;
     }
@@ -235,9 +237,9 @@ runs_one s rest closed before had took status n all ran legal wrote within front
 pub runs_stopped : (s : Stage) (rest : List Stage) (closed : Closed) (before : Option Closed) (had took : Option (List ℕ)) (status : Status) → IsRunOfStage s closed
     → IsReport (report_of s) (length (history_of s)) → Wrote Done (report_of s) status had took → status ≢ Done → RunsStages (s ∷ rest) before had took status (Some closed)
 runs_stopped s rest closed before had took WriteFault ran legal it other =
-    runs_one s rest closed before had took WriteFault it.count (λ done. absurd (let wrong : WriteFault ≡ Done = done in cc)) ran legal (stopped_before (report_of s) (reports_of rest) had took it) (let few = it.fewer in omega arith) it.wrote
+    runs_one s rest closed before had took WriteFault it.count (λ done. absurd (let wrong : WriteFault ≡ Done = done in cc)) ran legal (stopped_before (report_of s) (reports_of rest) had took it) (let few = it.fewer in omega arith) (λ failed. it.fewer) it.wrote
 runs_stopped s rest closed before had took NoMemory ran legal it other =
-    runs_one s rest closed before had took NoMemory it.count (λ done. absurd (let wrong : NoMemory ≡ Done = done in cc)) ran legal (stopped_before (report_of s) (reports_of rest) had took it) (let few = it.fewer in omega arith) it.wrote
+    runs_one s rest closed before had took NoMemory it.count (λ done. absurd (let wrong : NoMemory ≡ Done = done in cc)) ran legal (stopped_before (report_of s) (reports_of rest) had took it) (let few = it.fewer in omega arith) (λ failed. it.fewer) it.wrote
 runs_stopped s rest closed before had took Done ran legal it other = absurd (other it.0)
 runs_stopped s rest closed before had took Usage ran legal it other = absurd (other it.0)
 runs_stopped s rest closed before had took Refused ran legal it other = absurd (other it.0)
@@ -254,6 +256,7 @@ pub runs_last : (s : Stage) (closed : Closed) (before : Option Closed) (had took
 runs_last s closed before had took ran legal wrote =
     let same : report_of s ++ [] ≡ report_of s = append-nil (report_of s) in
     runs_one s [] closed before had took Done (length (report_of s)) (λ done. refl) ran legal (refl, subst (λ (l : List ℕ). Appends had took l) (sym same) wrote) (omega arith)
+    (λ failed. absurd (let wrong : Done ≡ WriteFault = failed in cc))
     (subst (λ (l : List ℕ). Appends had took l) (sym (take_all (length (report_of s)) (report_of s) (omega arith))) wrote)
 
 -- one, behind which memory ran out
@@ -268,7 +271,7 @@ runs_starved s case M rest closed before had took ran legal wrote =
       fewer = let all = length-append x y in let some = some_reports case M rest in omega arith;
       wrote = subst (λ (l : List ℕ). Appends had took l) (sym (take-append-le (length x) x y (omega arith) ∙ full)) wrote;
     })
-    (omega arith) (subst (λ (l : List ℕ). Appends had took l) (sym full) wrote)
+    (omega arith) (λ failed. absurd (let wrong : NoMemory ≡ WriteFault = failed in cc)) (subst (λ (l : List ℕ). Appends had took l) (sym full) wrote)
 
 told_more : (s : Stage) (rest : List Stage) (closed : Closed) (before : Option Closed) (count : ℕ) (told_run : Option Closed) → IsRunOfStage s closed
     → IsToldOf rest (Some closed) count told_run → IsToldOf (s ∷ rest) before (suc count) told_run
@@ -296,6 +299,7 @@ runs_more s rest closed before had mid took status told_run ran legal wrote more
       reach = length x + more.reach;
       far = subst (λ n. length (reports_of (take n (s ∷ rest))) ≤ length x + more.reach) (sym here) (far_more s rest more.count more.reach more.far);
       near = let all = length-append x y in let near = more.near in omega arith;
+      cut = λ failed. let all = length-append x y in let cut = more.cut failed in omega arith;
       front = subst (λ (l : List ℕ). Appends had took l) (sym (take_past x y more.reach)) (added_then had mid took x (take more.reach y) wrote more.front);
       legal = All-cons (λ (t : Stage). IsReport (report_of t) (length (history_of t))) s (take more.count rest) legal more.legal;
     }

@@ -4,7 +4,7 @@ use Rattle.std.specs.Prelude.{◌≡◌, ◌≢◌, ◌⊎◌, ℕ, zero, suc, �
 use Rattle.std.specs.Io.KnownBytes.{Appends}
 use Rattle.std.specs.List.{All, slice_get}
 use Rattle.dcr_base.specs.declared.status.Status.{Status}
-use Rattle.dcr_base.specs.declared.status.Status.TheVariants.{Done, Refused, NoMemory}
+use Rattle.dcr_base.specs.declared.status.Status.TheVariants.{Done, Refused, WriteFault, NoMemory}
 use Rattle.dcr_set.specs.EventSet.{Set}
 use Rattle.dcr_graph.specs.Cause.{waits}
 use Rattle.dcr_graph.specs.GraphValue.{Flat, rules_of}
@@ -81,8 +81,8 @@ IsToldOf stages before zero told_run = told_run ≡ before
 IsToldOf stages before (suc k) told_run = (s : Stage) × (closed : Closed) × (slice_get stages k ≡ Some s) × (told_run ≡ Some closed) × IsRunOfStage s closed
 
 -- Of these stages so many were run, each to its end, the last of which is told, and the reports of all were due. What was
--- written reaches behind the report of the one before the last, and not behind that of the last. Each report by itself is
--- that of a legal history.
+-- written reaches behind the report of the one before the last, and not behind that of the last; where the output failed it
+-- doesn't reach its end. Each report by itself is that of a legal history.
 pub record RunsStages (stages : List Stage) (before : Option Closed) (had took : Option (List ℕ)) (status : Status) (told_run : Option Closed) : Type 0 where
   pub count : ℕ
   pub within : count ≤ length stages
@@ -92,6 +92,7 @@ pub record RunsStages (stages : List Stage) (before : Option Closed) (had took :
   pub reach : ℕ
   pub far : length (reports_of (take (count - 1) stages)) ≤ reach
   pub near : reach ≤ length (reports_of (take count stages))
+  pub cut : status ≡ WriteFault → reach < length (reports_of (take count stages))
   pub front : Appends had took (take reach (reports_of (take count stages)))
   pub legal : All (λ (s : Stage). IsReport (report_of s) (length (history_of s))) (take count stages)
 
