@@ -1,7 +1,7 @@
 // Lines cut from bytes, however the bytes come.
 use crate::same::{same, same_bytes};
 use dcr_text::{Cut, LineCutter};
-use std::alloc::Global;
+use std::alloc::{AllocError, Global};
 use std::process::Abort;
 use std::test::Fail;
 
@@ -12,24 +12,42 @@ const TEXT: &[u8] = b"look doctor\nexec doctor pm\r\n\nfoo";
 fn cut(alloc: Global, pieces: &[&[u8]]) -> Result<(Vec<u8>, Cut), Fail> {
     let mut cutter = LineCutter::new(alloc, 200)?;
     let mut lines = Vec::new(alloc);
+    let last = cut_pieces(&mut cutter, pieces, &mut lines)?;
+    Ok((lines, last))
+}
+
+// Adds the lines that these pieces end, and answers what came of the last piece.
+fn cut_pieces(
+    cutter: &mut LineCutter,
+    pieces: &[&[u8]],
+    lines: &mut Vec<u8>,
+) -> Result<Cut, AllocError> {
     let mut last = Cut::More;
     for piece in pieces {
-        let mut left = *piece;
-        // Each line end begins one more call, and so does what is behind the last one.
-        for _ in 0..=piece.len() {
-            let (used, cut) = cutter.take(left);
-            last = cut;
-            match cut {
-                Cut::Line => {
-                    lines.extend_from_slice(cutter.line())?;
-                    lines.push(b'|')?;
-                    left = left.get(used..).unwrap_or(b"");
-                }
-                Cut::More | Cut::TooLong => break,
-            }
-        }
+        last = cut_piece(cutter, piece, lines)?;
     }
-    Ok((lines, last))
+    Ok(last)
+}
+
+// Adds the lines that this piece ends, and answers what came of what is behind them.
+fn cut_piece(
+    cutter: &mut LineCutter,
+    piece: &[u8],
+    lines: &mut Vec<u8>,
+) -> Result<Cut, AllocError> {
+    let mut left = piece;
+    // Each byte ends one line at most.
+    for _ in 0..piece.len() {
+        let (used, cut) = cutter.take(left);
+        match cut {
+            Cut::Line => {}
+            Cut::More | Cut::TooLong => return Ok(cut),
+        }
+        lines.extend_from_slice(cutter.line())?;
+        lines.push(b'|')?;
+        left = left.get(used..).unwrap_or(b"");
+    }
+    Ok(cutter.take(left).1)
 }
 
 // That these pieces have these lines, of which none is too long.
@@ -58,20 +76,26 @@ fn assert_long(rt: &impl Abort, alloc: Global, behind: &[u8; 2], len: usize) -> 
     Ok(())
 }
 
-#[test]
-fn a_text_in_pieces_has_the_same_lines(rt: HostRuntime) -> Result<(), Fail> {
-    let lines = b"look doctor|exec doctor pm||foo|";
-    for at in 0..=TEXT.len() {
-        let pieces = [&TEXT[..at], &TEXT[at..], b"", b"\n"];
-        assert_lines(&rt, rt.alloc(), &pieces, lines, "two pieces")?;
-    }
-    let mut bytes = Vec::new(rt.alloc());
+// The text, one byte a piece.
+fn bytes_of_text(alloc: Global) -> Result<Vec<&'static [u8]>, AllocError> {
+    let mut bytes = Vec::new(alloc);
     for byte in TEXT.chunks(1) {
         bytes.push(byte)?;
     }
+    Ok(bytes)
+}
+
+#[test]
+fn a_text_in_pieces_has_the_same_lines(rt: HostRuntime) -> Result<(), Fail> {
+    let lines = b"look doctor|exec doctor pm||foo|";
+    for at in 0..TEXT.len() {
+        let (front, rest) = TEXT.split_at(at);
+        assert_lines(&rt, rt.alloc(), &[front, rest, b"", b"\n"], lines, "pieces")?;
+    }
+    assert_lines(&rt, rt.alloc(), &[TEXT, b"", b"\n"], lines, "one piece")?;
+    let bytes = bytes_of_text(rt.alloc())?;
     let lines = b"look doctor|exec doctor pm||";
-    assert_lines(&rt, rt.alloc(), &bytes, lines, "byte by byte")?;
-    Ok(())
+    assert_lines(&rt, rt.alloc(), &bytes, lines, "byte by byte")
 }
 
 // One carriage return is dropped. A line may have 200 bytes, of which that is one.
@@ -95,32 +119,51 @@ fn a_carriage_return_is_dropped_and_counted(rt: HostRuntime) -> Result<(), Fail>
 }
 
 // What is used of a piece, and what comes of it.
+type Taken<'a> = (&'a [u8], (usize, Cut));
+
+// That a cutter takes these pieces so, one after the other.
+fn assert_taken(rt: &impl Abort, cutter: &mut LineCutter, pieces: &[Taken<'_>]) {
+    for (piece, told) in pieces {
+        same(rt, &cutter.take(piece), told, "a line end");
+    }
+}
+
+static ENDS: [Taken<'static>; 5] = [
+    (b"look", (4, Cut::More)),
+    (b" pm\r\n\nfoo", (5, Cut::Line)),
+    (b"\nfoo", (1, Cut::Line)),
+    (b"foo", (3, Cut::More)),
+    (b"", (0, Cut::More)),
+];
+
+// What comes behind a line that is too long.
+static BEHIND: [Taken<'static>; 4] = [
+    (b"\n", (0, Cut::TooLong)),
+    (b"", (0, Cut::TooLong)),
+    (b"a\n", (0, Cut::TooLong)),
+    (b"\na", (0, Cut::TooLong)),
+];
+
+// That one byte more than there may be is too long, and stays so, where the bytes come in these two pieces.
+fn assert_too_long(rt: &impl Abort, alloc: Global, front: &[u8], rest: &[u8]) -> Result<(), Fail> {
+    let mut cutter = LineCutter::new(alloc, 200)?;
+    let pieces = [
+        (front, (front.len(), Cut::More)),
+        (rest, (rest.len(), Cut::TooLong)),
+    ];
+    assert_taken(rt, &mut cutter, &pieces);
+    assert_taken(rt, &mut cutter, &BEHIND);
+    Ok(())
+}
+
 #[test]
 fn a_line_end_is_used_and_no_byte_behind_it(rt: HostRuntime) -> Result<(), Fail> {
     let mut cutter = LineCutter::new(rt.alloc(), 200)?;
-    for (piece, told) in [
-        (b"look".as_slice(), (4, Cut::More)),
-        (b" pm\r\n\nfoo", (5, Cut::Line)),
-        (b"\nfoo", (1, Cut::Line)),
-        (b"foo", (3, Cut::More)),
-        (b"", (0, Cut::More)),
-    ] {
-        same(&rt, &cutter.take(piece), &told, "a line end");
-    }
-    // One byte more than there may be is too long, and stays so.
+    assert_taken(&rt, &mut cutter, &ENDS);
     let bytes = [b'a'; 201];
     for at in [0, 1, 100, 200] {
-        let mut cutter = LineCutter::new(rt.alloc(), 200)?;
-        for (piece, told) in [
-            (&bytes[..at], (at, Cut::More)),
-            (&bytes[at..], (201 - at, Cut::TooLong)),
-            (b"\n", (0, Cut::TooLong)),
-            (b"", (0, Cut::TooLong)),
-            (b"a\n", (0, Cut::TooLong)),
-            (b"\na", (0, Cut::TooLong)),
-        ] {
-            same(&rt, &cutter.take(piece), &told, "201 bytes");
-        }
+        let (front, rest) = bytes.split_at(at);
+        assert_too_long(&rt, rt.alloc(), front, rest)?;
     }
     Ok(())
 }

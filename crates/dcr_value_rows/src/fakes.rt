@@ -5,65 +5,90 @@ ghost use Rattle.dcr_fakes.specs.LinkState.{IsFresh};
 use crate::same::{same, same_bytes};
 use dcr_base::{Door, Failed, Link, Sink, Source, WriteFault, write_all};
 use dcr_fakes::{MemDoor, MemLink, MemSink, MemSource};
-use std::alloc::Global;
+use std::alloc::{AllocError, Global};
+use std::process::Abort;
 use std::test::Fail;
+
+// The step, the room of the buffer, which read fails, and what the reads give: `!` for a failure.
+type Pieces = (usize, usize, u32, [&'static str; 4]);
+
+static PIECES: [Pieces; 8] = [
+    (1, 4, 0, ["a", "b", "c", "d"]),
+    (3, 4, 0, ["abc", "def", "ghi", "j"]),
+    (3, 2, 0, ["ab", "cd", "ef", "gh"]),
+    (4, 0, 0, ["", "", "", ""]),
+    (7, 9, 0, ["abcdefg", "hij", "", ""]),
+    (100, 4, 0, ["abcd", "efgh", "ij", ""]),
+    (100, 10, 0, ["abcdefghij", "", "", ""]),
+    (3, 4, 2, ["abc", "!", "def", "ghi"]),
+];
+
+// A source of ten letters, which gives so many a read, one at least, and fails at the read of this number.
+fn letters(alloc: Global, step: usize, failing: u32) -> Result<MemSource, AllocError> {
+    let bytes = Vec::from_slice(alloc, b"abcdefghij".as_slice())?;
+    let failing = Vec::from_slice(alloc, [failing].as_slice())?;
+    Ok(MemSource::new(bytes, step.max(1), failing))
+}
+
+// That a read into so much room, ten bytes at most, gives this piece, and leaves what is behind it as it was.
+fn assert_read(rt: &impl Abort, source: &mut MemSource, room: usize, piece: &str) {
+    let (told, front) = if piece == "!" {
+        (Err(Failed), "")
+    } else {
+        (Ok(piece.len()), piece)
+    };
+    let mut buf = [b'-'; 10];
+    same(rt, &source.read(&mut buf[..room.min(10)]), &told, piece);
+    let (given, behind) = buf.split_at(front.len().min(10));
+    same_bytes(rt, given, front.as_bytes(), piece);
+    let is_left = b"----------".ends_with(behind);
+    same(rt, &is_left, &true, piece);
+}
 
 #[test]
 fn a_source_gives_its_bytes_in_pieces(rt: HostRuntime) -> Result<(), Fail> {
-    // The step, the room of the buffer, which read fails, and what the reads give: `!` for a failure.
-    let rows = [
-        (1, 4, 0, ["a", "b", "c", "d"]),
-        (3, 4, 0, ["abc", "def", "ghi", "j"]),
-        (3, 2, 0, ["ab", "cd", "ef", "gh"]),
-        (4, 0, 0, ["", "", "", ""]),
-        (7, 9, 0, ["abcdefg", "hij", "", ""]),
-        (100, 4, 0, ["abcd", "efgh", "ij", ""]),
-        (100, 10, 0, ["abcdefghij", "", "", ""]),
-        (3, 4, 2, ["abc", "!", "def", "ghi"]),
-    ];
-    for (step, room, failing, pieces) in rows {
-        assert!(rt; step >= 1 && room <= 10);
-        let bytes = Vec::from_slice(rt.alloc(), b"abcdefghij".as_slice())?;
-        let mut source = MemSource::new(bytes, step, Vec::from_slice(rt.alloc(), &[failing])?);
+    for (step, room, failing, pieces) in &PIECES {
+        let mut source = letters(rt.alloc(), *step, *failing)?;
         for piece in pieces {
-            let mut buf = [b'-'; 10];
-            let read = source.read(&mut buf[..room]);
-            let (told, front) = if piece == "!" {
-                (Err(Failed), "")
-            } else {
-                (Ok(piece.len()), piece)
-            };
-            same(&rt, &read, &told, piece);
-            let behind = buf.strip_prefix(front.as_bytes());
-            assert!(rt; behind.is_some_and(|rest| rest.iter().all(|byte| *byte == b'-')));
+            assert_read(&rt, &mut source, *room, piece);
         }
     }
     Ok(())
 }
 
+// How much room there is, and what comes of writing the letters.
+static ROOMS: [(usize, Result<(), WriteFault>); 3] = [
+    (26, Ok(())),
+    (20, Err(WriteFault { written: 20 })),
+    (0, Err(WriteFault { written: 0 })),
+];
+
+// That a sink with so much room takes the front of the letters.
+fn assert_room(rt: &impl Abort, alloc: Global, room: usize, told: &Result<(), WriteFault>) {
+    let text = b"abcdefghijklmnopqrstuvwxyz";
+    let mut sink = MemSink::new(alloc, room);
+    same(rt, &write_all(&mut sink, text), told, "a room");
+    same(rt, &sink.write(b""), &Ok(0), "a write of nothing");
+    same(rt, &Some(sink.taken()), &text.get(..room), "a room");
+}
+
+// What is written to a sink with room for five bytes whose second write fails, and what comes of it.
+static WRITES: [(&[u8], Result<usize, Failed>); 4] = [
+    (b"abc", Ok(3)),
+    (b"def", Err(Failed)),
+    (b"ghi", Ok(2)),
+    (b"jkl", Err(Failed)),
+];
+
 #[test]
 fn a_sink_takes_the_front_and_fails(rt: HostRuntime) -> Result<(), Fail> {
-    for (room, told) in [
-        (26, Ok(())),
-        (20, Err(WriteFault { written: 20 })),
-        (0, Err(WriteFault { written: 0 })),
-    ] {
-        let text = b"abcdefghijklmnopqrstuvwxyz";
-        let mut sink = MemSink::new(rt.alloc(), room);
-        same(&rt, &write_all(&mut sink, text), &told, "a room");
-        same(&rt, &sink.write(b""), &Ok(0), "a write of nothing");
-        assert!(rt; text.starts_with(sink.taken()) && sink.taken().len() == room);
+    for (room, told) in &ROOMS {
+        assert_room(&rt, rt.alloc(), *room, told);
     }
-    // Its second write fails, and it goes on.
     let failing = Vec::from_slice(rt.alloc(), [2, 9].as_slice())?;
     let mut sink = MemSink::failing(rt.alloc(), 5, failing);
-    for (text, told) in [
-        (b"abc", Ok(3)),
-        (b"def", Err(Failed)),
-        (b"ghi", Ok(2)),
-        (b"jkl", Err(Failed)),
-    ] {
-        same(&rt, &sink.write(text), &told, "a write");
+    for (text, told) in &WRITES {
+        same(&rt, &sink.write(text), told, "a write");
     }
     same_bytes(&rt, sink.taken(), b"abcgh", "what was taken");
     Ok(())
