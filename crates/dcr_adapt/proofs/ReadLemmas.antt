@@ -3,7 +3,6 @@ use Rattle.std.proofs.Common.{◌≡◌, ℕ, ◌+◌, ◌-◌, ◌<◌, ◌≤�
 use Rattle.std.specs.Borrow.{Bor}
 use Rattle.std.specs.List.{All, AllZip, slice_get}
 use Rattle.std.specs.Option.{option_copied, option_map}
-use Rattle.std.specs.Result.{result_ok}
 use Rattle.std.proofs.lemmas.Bool.{cases_lt}
 use Rattle.std.proofs.lemmas.List.{drop_more, get_or_push, length-drop, length_push, map_push, take_all, take_more}
 use Rattle.std.proofs.lemmas.List.Elements.{All-nil, All-push}
@@ -17,30 +16,36 @@ use Rattle.dcr_json.specs.Judged.{Spelled}
 use Rattle.dcr_json.specs.declared.case.Case.{Case}
 use Rattle.dcr_json.specs.declared.case.CaseStop.TheVariants.{TooLong}
 use Rattle.dcr_json.proofs.RefusalLemmas.{comes}
-use Rattle.dcr_adapt.specs.Stages.{case_before, line_texts, stage_in, stages_from}
+use Rattle.dcr_roles.specs.Accepted.{accepted_in}
+use Rattle.dcr_roles.specs.Laws.{AcceptsCase}
+use Rattle.dcr_adapt.specs.Stages.{case_before, case_if_accepted, line_texts, stage_in, stages_from}
 use Rattle.dcr_adapt.specs.declared.stop.StageStop.{StageStop}
 use Rattle.dcr_adapt.proofs.LineLemmas.{no_line}
-use Rattle.dcr_adapt.proofs.StageLemmas.{read}
+use Rattle.dcr_adapt.proofs.StageLemmas.{accepted_case, accepted_spelled, read}
 
 -- a text spells this case
 abbrev pub Spells : List ℕ → Case → Type 0
 Spells text case = case_in text ≡ Ok (case_of case)
+
+-- and is accepted
+abbrev pub Accepts : List ℕ → Case → Type 0
+Accepts text case = AcceptsCase text (case_of case)
 
 -- the last of the cases
 abbrev pub last_of : List Case → Option Spelled
 last_of cases = option_map case_of (slice_get cases (length cases - 1))
 
 -- it is not too long then
-short_spelled : (text : List ℕ) (case : Case) → Spells text case → length text ≤ 16777216
-short_spelled text case spells = elim (cases_lt 16777216 (length text)) [
-  | inl long ↦ absurd (let wrong = sym (comes text TooLong long) ∙ spells in cc)
+short_spelled : (text : List ℕ) (case : Case) → Accepts text case → length text ≤ 16777216
+short_spelled text case accepts = elim (cases_lt 16777216 (length text)) [
+  | inl long ↦ absurd (let wrong = sym (comes text TooLong long) ∙ accepted_spelled text (case_of case) accepts in cc)
   | inr not_long ↦ omega (arith, not_long)
 ]
 
 -- the lines before line i are these cases, and those from it on are left
 pub record HasRead (texts : List (List ℕ)) (i : ℕ) (cases : List Case) (left : List (List ℕ)) : Type 0 where
   pub stages : each_from (read texts) 0 (take i texts) ≡ Ok (map case_of cases)
-  pub lines : AllZip Spells (take i texts) cases
+  pub lines : AllZip Accepts (take i texts) cases
   pub before : case_before texts i ≡ last_of cases
   pub behind : left ≡ drop i texts
   pub fits : All IsCase cases
@@ -74,7 +79,7 @@ module _ (texts : List (List ℕ)) (i : ℕ) (cases : List Case) (left : List (L
   stage_at before r last told = ap (λ o. stage_in i o text) (has.before ∙ sym last) ∙ told
 
   -- one more was read
-  pub more_read : (before : Option Spelled) (case : Case) (more : List Case) → before ≡ last_of cases → stage_in i before text ≡ Ok (case_of case) → Spells text case → IsCase case
+  pub more_read : (before : Option Spelled) (case : Case) (more : List Case) → before ≡ last_of cases → stage_in i before text ≡ Ok (case_of case) → Accepts text case → IsCase case
       → more ≡ cases ++ case ∷ [] → HasRead texts (i + 1) more behind
   more_read before case more last told spells fits longer =
       let P : List Case → Type 0 = λ cs. HasRead texts (i + 1) cs behind in
@@ -85,9 +90,9 @@ module _ (texts : List (List ℕ)) (i : ℕ) (cases : List Case) (left : List (L
       slice_get-get_or (cases ++ case ∷ []) (length cases) case (let long = length_push cases case in omega (arith, long)) ∙ ap Some (get_or_push cases case case (length cases) refl) in
       subst P (sym longer) (record {
         stages = from_step (read texts) texts i text (map case_of cases) (case_of case) line_at has.stages (stage_at before (Ok (case_of case)) last told) ∙ ap Ok (sym (map_push case_of cases case));
-        lines = subst (λ ts. AllZip Spells ts (cases ++ case ∷ [])) (sym taken) (all_zipped_more Spells (take i texts) cases text case has.lines spells);
+        lines = subst (λ ts. AllZip Accepts ts (cases ++ case ∷ [])) (sym taken) (all_zipped_more Accepts (take i texts) cases text case has.lines spells);
         before =
-            ap (case_before texts) next ∙ ap (λ t. result_ok (case_in t)) (sym here) ∙ ap result_ok spells
+            ap (case_before texts) next ∙ ap (λ t. case_if_accepted (accepted_in t)) (sym here) ∙ accepted_case text (case_of case) spells
             ∙ sym (ap (λ k. option_map case_of (slice_get (cases ++ case ∷ []) k)) at ∙ ap (option_map case_of) pushed);
         behind = let both = parts in cc;
         fits = All-push IsCase cases case has.fits fits;
@@ -112,8 +117,17 @@ module _ (texts : List (List ℕ)) (i : ℕ) (cases : List Case) (left : List (L
 pub all_read : (texts : List (List ℕ)) (i : ℕ) (cases : List Case) (left : List (List ℕ)) → HasRead texts i cases left → length texts ≤ i → stages_from texts ≡ Ok (map case_of cases)
 all_read texts i cases left has past = from_end (read texts) texts i (Ok (map case_of cases)) past has.stages
 
+pub all_accepted : (texts : List (List ℕ)) (i : ℕ) (cases : List Case) (left : List (List ℕ)) → HasRead texts i cases left → length texts ≤ i → AllZip Accepts texts cases
+all_accepted texts i cases left has past = subst (λ ts. AllZip Accepts ts cases) (take_all i texts past) has.lines
+
+each_spelled : (texts : List (List ℕ)) (cases : List Case) → AllZip Accepts texts cases → AllZip Spells texts cases
+each_spelled [] [] h = tt
+each_spelled [] (case ∷ cases) h = absurd h
+each_spelled (text ∷ texts) [] h = absurd h
+each_spelled (text ∷ texts) (case ∷ cases) h = (accepted_spelled text (case_of case) h.0, each_spelled texts cases h.1)
+
 pub all_lines : (texts : List (List ℕ)) (i : ℕ) (cases : List Case) (left : List (List ℕ)) → HasRead texts i cases left → length texts ≤ i → AllZip Spells texts cases
-all_lines texts i cases left has past = subst (λ ts. AllZip Spells ts cases) (take_all i texts past) has.lines
+all_lines texts i cases left has past = each_spelled texts cases (all_accepted texts i cases left has past)
 
 -- a text with a line has a byte
 some_byte : (text : List ℕ) → 0 < length (line_texts text) → 0 < length text

@@ -6,10 +6,12 @@ use Rattle.std.proofs.lemmas.Option.{same_Some, slice_get-get_or, slice_get_with
 use Rattle.dcr_shape.specs.Stages.{next_stage}
 use Rattle.dcr_written.proofs.StageLemmas.{from_length, each_read}
 use Rattle.dcr_json.specs.Judged.{Spelled}
-use Rattle.dcr_adapt.specs.Stages.{case_before, line_texts, counted, stages_from, stages_in}
-use Rattle.dcr_adapt.specs.Refusals.{IsAccepted, AreSoMany, IsReached, ComesOf, Comes, AreStages, RefusalsAreTheStages, StagesAreTheLines, OneOfTheTwo}
+use Rattle.dcr_roles.specs.declared.accepted.AcceptStop.{AcceptStop}
+use Rattle.dcr_roles.specs.declared.accepted.AcceptStop.TheVariants as cause
+use Rattle.dcr_adapt.specs.Stages.{by_line, case_before, line_texts, counted, stages_from, stages_in}
+use Rattle.dcr_adapt.specs.Refusals.{IsAccepted, RefusesLine, AreSoMany, IsReached, ComesOf, Comes, AreStages, RefusalsAreTheStages, StagesAreTheLines, OneOfTheTwo}
 use Rattle.dcr_adapt.specs.declared.stop.StageStop.{StageStop}
-use Rattle.dcr_adapt.specs.declared.stop.StageStop.TheVariants.{Cases, Stage, Dropped, NoMemory}
+use Rattle.dcr_adapt.specs.declared.stop.StageStop.TheVariants.{Cases, Stage, Policy, Dropped, NoMemory}
 use Rattle.dcr_adapt.proofs.EachLemmas.{AreRead, IsFirstRefused, first_refused, refused_where, given_where}
 use Rattle.dcr_adapt.proofs.StageLemmas.{Refused, by_itself, by_drop, refused_is, read, accepted_read, read_accepted, line_refused, name_dropped, dropped_name}
 
@@ -77,8 +79,12 @@ module _ (texts : List (List ℕ)) where
       reached : (first : IsFirstRefused (read texts) texts stop) → IsReached texts first.i
       reached first = record { many = many; earlier = read_reached first.i (slice_get_within texts first.i first.x first.at) first.earlier }
 
+      by_cause : (i : ℕ) (why : AcceptStop) → IsReached texts i → RefusesLine texts i why → ComesOf texts (by_line i why)
+      by_cause i (cause.Case stop) there refuses = (there, refuses)
+      by_cause i (cause.Policy stop) there refuses = (there, refuses)
+
       why : (first : IsFirstRefused (read texts) texts stop) → Refused first.i (case_before texts first.i) first.x stop → ComesOf texts stop
-      why first (by_itself cause is stop_is) = subst (ComesOf texts) (sym stop_is) (reached first, record { text = first.x; line = first.at; refused = is })
+      why first (by_itself because is stop_is) = subst (ComesOf texts) (sym stop_is) (by_cause first.i because (reached first) (record { text = first.x; line = first.at; refused = is }))
       why first (by_drop case is drop) =
           let named = dropped_name texts first.i first.x case stop first.at is drop in
           subst (ComesOf texts) (sym named.1) (reached first, named.2)
@@ -115,7 +121,8 @@ comes_from bytes (Cases count) h =
     let n = length (line_texts bytes) in
     let other : ¬ AreSoMany n = subst (λ m. ¬ AreSoMany m) h.0 h.1 in
     counted_so bytes other ∙ ap (λ m. Err (Cases m)) (sym h.0)
-comes_from bytes (Stage i why) h = stages_so bytes h.0.many ∙ stopped (line_texts bytes) i h.1.text (Stage i why) h.0 h.1.line (line_refused (line_texts bytes) i why h.1)
+comes_from bytes (Stage i why) h = stages_so bytes h.0.many ∙ stopped (line_texts bytes) i h.1.text (Stage i why) h.0 h.1.line (line_refused (line_texts bytes) i (cause.Case why) h.1)
+comes_from bytes (Policy i why) h = stages_so bytes h.0.many ∙ stopped (line_texts bytes) i h.1.text (Policy i why) h.0 h.1.line (line_refused (line_texts bytes) i (cause.Policy why) h.1)
 comes_from bytes (Dropped i name) h = stages_so bytes h.0.many ∙ stopped (line_texts bytes) i h.1.is.text (Dropped i name) h.0 h.1.is.line (name_dropped (line_texts bytes) i name h.1)
 comes_from bytes NoMemory h = absurd h
 

@@ -1,8 +1,7 @@
 -- One stage: when it is accepted, and what it is refused for.
-use Rattle.std.proofs.Common.{◌≡◌, ℕ, zero, suc, ◌+◌, ◌<◌, Bool, true, List, [], length, get_or, Option, Some, None, Result, Ok, Err, refl, sym, ap, ◌∙◌, arith}
+use Rattle.std.proofs.Common.{◌≡◌, ℕ, zero, suc, ◌+◌, ◌<◌, Bool, true, List, [], length, get_or, Option, Some, None, Result, Ok, Err, refl, sym, ap, subst, ◌∙◌, arith}
 use Rattle.std.specs.List.{slice_get}
 use Rattle.std.specs.Option.{is_none}
-use Rattle.std.specs.Result.{result_ok}
 use Rattle.std.specs.Str.{bytes_eq}
 use Rattle.std.proofs.lemmas.Bool.{false≢true, false_from_ne_true}
 use Rattle.std.proofs.lemmas.Option.{get_or_from_slice_get, slice_get-get_or, slice_get_within, same_Some}
@@ -13,11 +12,15 @@ use Rattle.dcr_shape.specs.Stages.{next_stage}
 use Rattle.dcr_reading.specs.Accepted.{atom_names}
 use Rattle.dcr_json.specs.Case.{case_in}
 use Rattle.dcr_json.specs.Judged.{Spelled, name_at}
-use Rattle.dcr_json.specs.declared.case.CaseStop.{CaseStop}
-use Rattle.dcr_adapt.specs.Stages.{of_stage, first_dropped, by_dropped, kept, stage_in, case_before}
+use Rattle.dcr_json.proofs.RefusalLemmas.{cases_law}
+use Rattle.dcr_roles.specs.Accepted.{accepted_in, SpelledBoth}
+use Rattle.dcr_roles.specs.Laws.{AcceptsCase}
+use Rattle.dcr_roles.specs.declared.accepted.AcceptStop.{AcceptStop}
+use Rattle.dcr_roles.proofs.AcceptedLemmas.{accepted}
+use Rattle.dcr_adapt.specs.Stages.{by_line, of_stage, first_dropped, by_dropped, kept, stage_in, case_before, case_if_accepted}
 use Rattle.dcr_adapt.specs.Refusals.{IsDropped, IsLeastDropped, SpellsLine, RefusesLine, IsAccepted, DropsName}
 use Rattle.dcr_adapt.specs.declared.stop.StageStop.{StageStop}
-use Rattle.dcr_adapt.specs.declared.stop.StageStop.TheVariants.{Stage, Dropped}
+use Rattle.dcr_adapt.specs.declared.stop.StageStop.TheVariants.{Dropped}
 
 -- ---- names that are missing
 
@@ -63,18 +66,38 @@ none_dropped names next none a dropped = false≢true (sym (least-none (length n
 pub none_from : (names next : List (List ℕ)) → ((a : ℕ) → ¬ IsDropped names next a) → first_dropped names next ≡ None
 none_from names next each = least-none_from (length names) (missing names next) (λ a atom. false_from_ne_true _ (λ gone. each a (dropped_from names next a atom gone)))
 
+-- ---- what is accepted
+
+-- a case, with its policy
+pub of_both : (text : List ℕ) (both : SpelledBoth) (case : Spelled) → accepted_in text ≡ Ok both → both.case ≡ case → AcceptsCase text case
+of_both text both case e same = subst (AcceptsCase text) same (record { policy = both.policy; spells = (accepted text both).0 e })
+
+-- the other way round
+accepted_as : (text : List ℕ) (case : Spelled) (a : AcceptsCase text case) → accepted_in text ≡ Ok (record { case = case; policy = a.policy })
+accepted_as text case a = (accepted text (record { case = case; policy = a.policy })).1 a.spells
+
+-- it is that case
+pub accepted_case : (text : List ℕ) (case : Spelled) → AcceptsCase text case → case_if_accepted (accepted_in text) ≡ Some case
+accepted_case text case a = ap case_if_accepted (accepted_as text case a)
+
+-- and spelled as one
+pub accepted_spelled : (text : List ℕ) (case : Spelled) → AcceptsCase text case → case_in text ≡ Ok case
+accepted_spelled text case a = (cases_law text case).1 a.spells.spells.spells
+
 -- ---- the case before
 
 pub before_is : (texts : List (List ℕ)) (h : ℕ) (before : Spelled) → SpellsLine texts h before → case_before texts (suc h) ≡ Some before
-before_is texts h before was = ap (λ text. result_ok (case_in text)) (get_or_from_slice_get texts h was.text [] was.line) ∙ ap result_ok was.spelled
+before_is texts h before was =
+    ap (λ text. case_if_accepted (accepted_in text)) (get_or_from_slice_get texts h was.text [] was.line)
+    ∙ accepted_case was.text before was.accepted
 
-ok_of : (r : Result Spelled CaseStop) (case : Spelled) → result_ok r ≡ Some case → r ≡ Ok case
-ok_of (Ok other) case e = ap Ok (same_Some _ _ e)
-ok_of (Err stop) case e = absurd cc
+if_accepted : (text : List ℕ) (case : Spelled) (r : Result SpelledBoth AcceptStop) → accepted_in text ≡ r → case_if_accepted r ≡ Some case → AcceptsCase text case
+if_accepted text case (Ok both) is e = of_both text both case is (same_Some _ _ e)
+if_accepted text case (Err stop) is e = absurd cc
 
 -- the line that it is
 pub spelled_before : (texts : List (List ℕ)) (h : ℕ) (before : Spelled) → h < length texts → case_before texts (suc h) ≡ Some before → SpellsLine texts h before
-spelled_before texts h before below e = record { text = get_or texts h []; line = slice_get-get_or texts h [] below; spelled = ok_of _ before e }
+spelled_before texts h before below e = record { text = get_or texts h []; line = slice_get-get_or texts h [] below; accepted = if_accepted (get_or texts h []) before (accepted_in (get_or texts h [])) refl e }
 
 -- ---- what is kept
 
@@ -110,64 +133,64 @@ drops i (Some was) case stop e = drops_by i was case (first_dropped (atom_names 
 -- ---- one stage
 
 -- the stage behind what its line is by itself
-behind : ℕ → Option Spelled → Result Spelled CaseStop → Result Spelled StageStop
+behind : ℕ → Option Spelled → Result SpelledBoth AcceptStop → Result Spelled StageStop
 behind i before r = next_stage (λ case. next_stage (λ _. Ok case) (kept i before case)) (of_stage i r)
 
-behind_is : (i : ℕ) (before : Option Spelled) (text : List ℕ) → stage_in i before text ≡ behind i before (case_in text)
+behind_is : (i : ℕ) (before : Option Spelled) (text : List ℕ) → stage_in i before text ≡ behind i before (accepted_in text)
 unfolding stage_in behind
 behind_is i before text = refl
 
 -- it is accepted
-pub stage_ok : (i : ℕ) (before : Option Spelled) (text : List ℕ) (case : Spelled) → case_in text ≡ Ok case → kept i before case ≡ Ok tt → stage_in i before text ≡ Ok case
+pub stage_ok : (i : ℕ) (before : Option Spelled) (text : List ℕ) (case : Spelled) → AcceptsCase text case → kept i before case ≡ Ok tt → stage_in i before text ≡ Ok case
 unfolding behind
-stage_ok i before text case is keeps = behind_is i before text ∙ ap (behind i before) is ∙ ap (next_stage (λ _. Ok case)) keeps
+stage_ok i before text case is keeps = behind_is i before text ∙ ap (behind i before) (accepted_as text case is) ∙ ap (next_stage (λ _. Ok case)) keeps
 
 -- its line is refused
-pub stage_refused : (i : ℕ) (before : Option Spelled) (text : List ℕ) (why : CaseStop) → case_in text ≡ Err why → stage_in i before text ≡ Err (Stage i why)
+pub stage_refused : (i : ℕ) (before : Option Spelled) (text : List ℕ) (why : AcceptStop) → accepted_in text ≡ Err why → stage_in i before text ≡ Err (by_line i why)
 unfolding behind
 stage_refused i before text why is = behind_is i before text ∙ ap (behind i before) is
 
 -- an atom is dropped
-pub stage_drops : (i : ℕ) (before : Option Spelled) (text : List ℕ) (case : Spelled) (stop : StageStop) → case_in text ≡ Ok case → kept i before case ≡ Err stop → stage_in i before text ≡ Err stop
+pub stage_drops : (i : ℕ) (before : Option Spelled) (text : List ℕ) (case : Spelled) (stop : StageStop) → AcceptsCase text case → kept i before case ≡ Err stop → stage_in i before text ≡ Err stop
 unfolding behind
-stage_drops i before text case stop is drops = behind_is i before text ∙ ap (behind i before) is ∙ ap (next_stage (λ _. Ok case)) drops
+stage_drops i before text case stop is drops = behind_is i before text ∙ ap (behind i before) (accepted_as text case is) ∙ ap (next_stage (λ _. Ok case)) drops
 
 -- what an accepted stage is
 pub record IsGiven (i : ℕ) (before : Option Spelled) (text : List ℕ) (case : Spelled) : Type 0 where
-  pub spelled : case_in text ≡ Ok case
+  pub accepted : AcceptsCase text case
   pub keeps : kept i before case ≡ Ok tt
 
-given_by : (i : ℕ) (before : Option Spelled) (text : List ℕ) (case other : Spelled) (k : Result (Unit {0}) StageStop) → case_in text ≡ Ok other → kept i before other ≡ k → next_stage (λ _. Ok other) k ≡ Ok case → IsGiven i before text case
-given_by i before text case other (Ok u) is keeps e =
-    let same : other ≡ case = cc in
-    record { spelled = is ∙ ap Ok same; keeps = ap (kept i before) (sym same) ∙ keeps }
-given_by i before text case other (Err stop) is keeps e = absurd cc
+given_by : (i : ℕ) (before : Option Spelled) (text : List ℕ) (case : Spelled) (both : SpelledBoth) (k : Result (Unit {0}) StageStop) → accepted_in text ≡ Ok both → kept i before both.case ≡ k → next_stage (λ _. Ok both.case) k ≡ Ok case → IsGiven i before text case
+given_by i before text case both (Ok u) is keeps e =
+    let same : both.case ≡ case = cc in
+    record { accepted = of_both text both case is same; keeps = ap (kept i before) (sym same) ∙ keeps }
+given_by i before text case both (Err stop) is keeps e = absurd cc
 
-given_as : (i : ℕ) (before : Option Spelled) (text : List ℕ) (case : Spelled) (r : Result Spelled CaseStop) → case_in text ≡ r → behind i before r ≡ Ok case → IsGiven i before text case
+given_as : (i : ℕ) (before : Option Spelled) (text : List ℕ) (case : Spelled) (r : Result SpelledBoth AcceptStop) → accepted_in text ≡ r → behind i before r ≡ Ok case → IsGiven i before text case
 unfolding behind
-given_as i before text case (Ok other) is e = given_by i before text case other (kept i before other) is refl e
+given_as i before text case (Ok both) is e = given_by i before text case both (kept i before both.case) is refl e
 given_as i before text case (Err why) is e = absurd cc
 
 pub given_is : (i : ℕ) (before : Option Spelled) (text : List ℕ) (case : Spelled) → stage_in i before text ≡ Ok case → IsGiven i before text case
-given_is i before text case e = given_as i before text case (case_in text) refl (sym (behind_is i before text) ∙ e)
+given_is i before text case e = given_as i before text case (accepted_in text) refl (sym (behind_is i before text) ∙ e)
 
 -- what a stage is refused for
 pub data Refused (i : ℕ) (before : Option Spelled) (text : List ℕ) (stop : StageStop) : Type 0 where
-  by_itself : (why : CaseStop) → case_in text ≡ Err why → stop ≡ Stage i why → Refused i before text stop
-  by_drop : (case : Spelled) → case_in text ≡ Ok case → Drops i before case stop → Refused i before text stop
+  by_itself : (why : AcceptStop) → accepted_in text ≡ Err why → stop ≡ by_line i why → Refused i before text stop
+  by_drop : (case : Spelled) → AcceptsCase text case → Drops i before case stop → Refused i before text stop
 
-refused_by : (i : ℕ) (before : Option Spelled) (text : List ℕ) (case : Spelled) (stop : StageStop) (k : Result (Unit {0}) StageStop) → case_in text ≡ Ok case → kept i before case ≡ k → next_stage (λ _. Ok case) k ≡ Err stop → Refused i before text stop
+refused_by : (i : ℕ) (before : Option Spelled) (text : List ℕ) (case : Spelled) (stop : StageStop) (k : Result (Unit {0}) StageStop) → AcceptsCase text case → kept i before case ≡ k → next_stage (λ _. Ok case) k ≡ Err stop → Refused i before text stop
 refused_by i before text case stop (Ok u) is keeps e = absurd cc
 refused_by i before text case stop (Err other) is keeps e =
     let same : other ≡ stop = cc in by_drop case is (drops i before case stop (keeps ∙ ap Err same))
 
-refused_as : (i : ℕ) (before : Option Spelled) (text : List ℕ) (stop : StageStop) (r : Result Spelled CaseStop) → case_in text ≡ r → behind i before r ≡ Err stop → Refused i before text stop
+refused_as : (i : ℕ) (before : Option Spelled) (text : List ℕ) (stop : StageStop) (r : Result SpelledBoth AcceptStop) → accepted_in text ≡ r → behind i before r ≡ Err stop → Refused i before text stop
 unfolding behind
-refused_as i before text stop (Ok case) is e = refused_by i before text case stop (kept i before case) is refl e
-refused_as i before text stop (Err why) is e = by_itself why is (let same : Stage i why ≡ stop = cc in sym same)
+refused_as i before text stop (Ok both) is e = refused_by i before text both.case stop (kept i before both.case) (of_both text both both.case is refl) refl e
+refused_as i before text stop (Err why) is e = by_itself why is (let same : by_line i why ≡ stop = cc in sym same)
 
 pub refused_is : (i : ℕ) (before : Option Spelled) (text : List ℕ) (stop : StageStop) → stage_in i before text ≡ Err stop → Refused i before text stop
-refused_is i before text stop e = refused_as i before text stop (case_in text) refl (sym (behind_is i before text) ∙ e)
+refused_is i before text stop e = refused_as i before text stop (accepted_in text) refl (sym (behind_is i before text) ∙ e)
 
 -- ---- one stage among the lines
 
@@ -176,15 +199,15 @@ module _ (texts : List (List ℕ)) where
   read i text = stage_in i (case_before texts i) text
 
   pub accepted_read : (i : ℕ) (case : Spelled) (a : IsAccepted texts i case) → read i a.spells.text ≡ Ok case
-  accepted_read zero case a = stage_ok zero None a.spells.text case a.spells.spelled refl
+  accepted_read zero case a = stage_ok zero None a.spells.text case a.spells.accepted refl
   accepted_read (suc h) case a = at (case_before texts (suc h)) refl
     where
       at : (o : Option Spelled) → case_before texts (suc h) ≡ o → read (suc h) a.spells.text ≡ Ok case
-      at None e = stage_ok (suc h) (case_before texts (suc h)) a.spells.text case a.spells.spelled (ap (λ o. kept (suc h) o case) e)
+      at None e = stage_ok (suc h) (case_before texts (suc h)) a.spells.text case a.spells.accepted (ap (λ o. kept (suc h) o case) e)
       at (Some before) e =
           let last = slice_get_within texts (suc h) a.spells.text a.spells.line in
           let was = spelled_before texts h before (omega (arith, last)) e in
-          stage_ok (suc h) (case_before texts (suc h)) a.spells.text case a.spells.spelled
+          stage_ok (suc h) (case_before texts (suc h)) a.spells.text case a.spells.accepted
           (ap (λ o. kept (suc h) o case) e ∙ kept_where (suc h) before case (none_from _ _ (a.keeps h before (omega arith) was)))
 
   keeps_by : (i : ℕ) (case : Spelled) → kept i (case_before texts i) case ≡ Ok tt → (h : ℕ) (before : Spelled) → h + 1 ≡ i → SpellsLine texts h before
@@ -197,19 +220,19 @@ module _ (texts : List (List ℕ)) where
   pub read_accepted : (i : ℕ) (text : List ℕ) (case : Spelled) → slice_get texts i ≡ Some text → read i text ≡ Ok case → IsAccepted texts i case
   read_accepted i text case at e =
       let given = given_is i (case_before texts i) text case e in
-      record { spells = record { text = text; line = at; spelled = given.spelled }; keeps = keeps_by i case given.keeps }
+      record { spells = record { text = text; line = at; accepted = given.accepted }; keeps = keeps_by i case given.keeps }
 
-  pub line_refused : (i : ℕ) (why : CaseStop) (r : RefusesLine texts i why) → read i r.text ≡ Err (Stage i why)
+  pub line_refused : (i : ℕ) (why : AcceptStop) (r : RefusesLine texts i why) → read i r.text ≡ Err (by_line i why)
   line_refused i why r = stage_refused i (case_before texts i) r.text why r.refused
 
   pub name_dropped : (i : ℕ) (name : List ℕ) (d : DropsName texts i name) → read i d.is.text ≡ Err (Dropped i name)
   name_dropped i name d =
       let same : suc d.h ≡ i = omega (arith, d.next) in
       let there : case_before texts i ≡ Some d.before = ap (case_before texts) (sym same) ∙ before_is texts d.h d.before d.was in
-      stage_drops i (case_before texts i) d.is.text d.case (Dropped i name) d.is.spelled
+      stage_drops i (case_before texts i) d.is.text d.case (Dropped i name) d.is.accepted
       (ap (λ o. kept i o d.case) there ∙ dropped_where i d.before d.case d.atom (first_from _ _ d.atom d.least) ∙ ap (λ n. Err (Dropped i n)) (sym d.named))
 
-  pub dropped_name : (i : ℕ) (text : List ℕ) (case : Spelled) (stop : StageStop) → slice_get texts i ≡ Some text → case_in text ≡ Ok case → Drops i (case_before texts i) case stop
+  pub dropped_name : (i : ℕ) (text : List ℕ) (case : Spelled) (stop : StageStop) → slice_get texts i ≡ Some text → AcceptsCase text case → Drops i (case_before texts i) case stop
       → (name : List ℕ) × (stop ≡ Dropped i name) × DropsName texts i name
   dropped_name zero text case stop at is d = absurd (let none = d.there in cc)
   dropped_name (suc h) text case stop at is d =
@@ -222,7 +245,7 @@ module _ (texts : List (List ℕ)) where
           before = d.was;
           case = case;
           was = spelled_before texts h d.was (omega (arith, last)) d.there;
-          is = record { text = text; line = at; spelled = is };
+          is = record { text = text; line = at; accepted = is };
           atom = d.atom;
           least = least_dropped _ _ d.atom d.first;
           named = refl;

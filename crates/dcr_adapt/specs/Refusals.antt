@@ -2,12 +2,14 @@
 use Rattle.std.specs.Prelude.{◌≡◌, ◌≢◌, ◌↔◌, ℕ, ◌+◌, ◌<◌, ◌≤◌, List, length, Some, Ok, Err}
 use Rattle.std.specs.List.{slice_get}
 use Rattle.dcr_reading.specs.Accepted.{atom_names}
-use Rattle.dcr_json.specs.Case.{case_in}
 use Rattle.dcr_json.specs.Judged.{Spelled, name_at}
-use Rattle.dcr_json.specs.declared.case.CaseStop.{CaseStop}
+use Rattle.dcr_roles.specs.Accepted.{accepted_in}
+use Rattle.dcr_roles.specs.Laws.{AcceptsCase}
+use Rattle.dcr_roles.specs.declared.accepted.AcceptStop.{AcceptStop}
+use Rattle.dcr_roles.specs.declared.accepted.AcceptStop.TheVariants as cause
 use Rattle.dcr_adapt.specs.Stages.{line_texts, stages_in}
 use Rattle.dcr_adapt.specs.declared.stop.StageStop.{StageStop}
-use Rattle.dcr_adapt.specs.declared.stop.StageStop.TheVariants.{Cases, Stage, Dropped, NoMemory}
+use Rattle.dcr_adapt.specs.declared.stop.StageStop.TheVariants.{Cases, Stage, Policy, Dropped, NoMemory}
 
 -- ---- atoms that are dropped
 
@@ -23,17 +25,17 @@ pub record IsLeastDropped (names next : List (List ℕ)) (a : ℕ) : Type 0 wher
 
 -- ---- one stage
 
--- line i is this case
+-- line i spells this case, and writes a policy that allows each call of its sessions
 pub record SpellsLine (texts : List (List ℕ)) (i : ℕ) (case : Spelled) : Type 0 where
   pub text : List ℕ
   pub line : slice_get texts i ≡ Some text
-  pub spelled : case_in text ≡ Ok case
+  pub accepted : AcceptsCase text case
 
--- line i is no case, for this cause
-pub record RefusesLine (texts : List (List ℕ)) (i : ℕ) (stop : CaseStop) : Type 0 where
+-- line i is no case, or a case whose policy is refused, for this cause
+pub record RefusesLine (texts : List (List ℕ)) (i : ℕ) (stop : AcceptStop) : Type 0 where
   pub text : List ℕ
   pub line : slice_get texts i ≡ Some text
-  pub refused : case_in text ≡ Err stop
+  pub refused : accepted_in text ≡ Err stop
 
 -- line i is this case, and no atom of the case before it is dropped
 pub record IsAccepted (texts : List (List ℕ)) (i : ℕ) (case : Spelled) : Type 0 where
@@ -68,7 +70,8 @@ pub record IsReached (texts : List (List ℕ)) (i : ℕ) : Type 0 where
 -- nothing that is tried before is wrong, and this is
 abbrev pub ComesOf : List (List ℕ) → StageStop → Type 0
 ComesOf texts (Cases count) = (count ≡ length texts) × ¬ AreSoMany count
-ComesOf texts (Stage i stop) = IsReached texts i × RefusesLine texts i stop
+ComesOf texts (Stage i stop) = IsReached texts i × RefusesLine texts i (cause.Case stop)
+ComesOf texts (Policy i stop) = IsReached texts i × RefusesLine texts i (cause.Policy stop)
 ComesOf texts (Dropped i name) = IsReached texts i × DropsName texts i name
 ComesOf texts NoMemory = ⊥
 

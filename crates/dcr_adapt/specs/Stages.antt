@@ -1,17 +1,18 @@
 -- The stages that a text spells, a case in each line, or the first refusal: the number of the lines; then the least stage
 -- that is refused, by itself before it is held against the one before it.
-use Rattle.std.specs.Prelude.{◌≡◌, ◌≢◌, ℕ, zero, suc, ◌&&◌, List, [], length, map, nat_le, slice_index_or, Option, Some, None, is_none, Result, Ok, Err, if◌then◌else◌}
+use Rattle.std.specs.Prelude.{◌≡◌, ◌≢◌, ℕ, zero, suc, ◌&&◌, List, [], length, map, nat_le, slice_index_or, Option, Some, None, is_none, option_map, Result, Ok, Err, if◌then◌else◌}
 use Rattle.std.specs.Result.{MatchResult, result_ok}
 use Rattle.dcr_text.specs.Lines.{Line, lines_of}
 use Rattle.dcr_set.specs.Least.{least}
 use Rattle.dcr_graph.specs.Names.{number_of}
 use Rattle.dcr_shape.specs.Stages.{◌>>=◌, each_from}
 use Rattle.dcr_reading.specs.Accepted.{atom_names}
-use Rattle.dcr_json.specs.Case.{case_in}
 use Rattle.dcr_json.specs.Judged.{Spelled, name_at}
-use Rattle.dcr_json.specs.declared.case.CaseStop.{CaseStop}
+use Rattle.dcr_roles.specs.Accepted.{accepted_in, SpelledBoth}
+use Rattle.dcr_roles.specs.declared.accepted.AcceptStop.{AcceptStop}
+use Rattle.dcr_roles.specs.declared.accepted.AcceptStop.TheVariants as cause
 use Rattle.dcr_adapt.specs.declared.stop.StageStop.{StageStop}
-use Rattle.dcr_adapt.specs.declared.stop.StageStop.TheVariants.{Cases, Stage, Dropped, NoMemory}
+use Rattle.dcr_adapt.specs.declared.stop.StageStop.TheVariants.{Cases, Stage, Policy, Dropped, NoMemory}
 
 -- the texts of the lines
 abbrev pub line_texts : List ℕ → List (List ℕ)
@@ -21,10 +22,15 @@ line_texts bytes = map (λ (line : Line). line.text) (lines_of bytes)
 abbrev pub counted : List (List ℕ) → Result (List (List ℕ)) StageStop
 counted texts = if nat_le 1 (length texts) && nat_le (length texts) 16 then Ok texts else Err (Cases (length texts))
 
--- what the line of stage i is by itself
-abbrev pub of_stage : ℕ → Result Spelled CaseStop → Result Spelled StageStop
-of_stage i (Ok case) = Ok case
-of_stage i (Err stop) = Err (Stage i stop)
+-- stage i is refused for what its line is by itself: no case, or a case whose policy is refused
+abbrev pub by_line : ℕ → AcceptStop → StageStop
+by_line i (cause.Case stop) = Stage i stop
+by_line i (cause.Policy stop) = Policy i stop
+
+-- what the line of stage i is by itself: a case, whose policy is not handed on
+abbrev pub of_stage : ℕ → Result SpelledBoth AcceptStop → Result Spelled StageStop
+of_stage i (Ok both) = Ok both.case
+of_stage i (Err stop) = Err (by_line i stop)
 
 -- the least of these names that is none of the next ones
 abbrev pub first_dropped : List (List ℕ) → List (List ℕ) → Option ℕ
@@ -43,14 +49,18 @@ kept i (Some before) case = by_dropped i (atom_names before.nested) (first_dropp
 -- the case of stage i, from its line and behind the case of the stage before it, or what it is refused for
 unfoldable pub stage_in : ℕ → Option Spelled → List ℕ → Result Spelled StageStop
 stage_in i before text = do
-  case ← of_stage i (case_in text)
+  case ← of_stage i (accepted_in text)
   same ← kept i before case
   Ok case
+
+-- the case of what is accepted
+abbrev pub case_if_accepted : Result SpelledBoth AcceptStop → Option Spelled
+case_if_accepted r = option_map (λ (both : SpelledBoth). both.case) (result_ok r)
 
 -- the case of the line before line i
 abbrev pub case_before : List (List ℕ) → ℕ → Option Spelled
 case_before texts zero = None
-case_before texts (suc h) = result_ok (case_in (slice_index_or texts h []))
+case_before texts (suc h) = case_if_accepted (accepted_in (slice_index_or texts h []))
 
 -- the cases of all stages, or the refusal of the first that is refused
 abbrev pub stages_from : List (List ℕ) → Result (List Spelled) StageStop

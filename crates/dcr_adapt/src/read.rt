@@ -4,24 +4,27 @@ ghost use Rattle.std.specs.List.{All, AllZip};
 ghost use Rattle.dcr_json.specs.Built.{case_of, IsCase};
 ghost use Rattle.dcr_json.specs.Case.{case_in};
 ghost use Rattle.dcr_json.specs.declared.case.Case.{Case};
+ghost use Rattle.dcr_roles.specs.Accepted.{accepted_in};
+ghost use Rattle.dcr_roles.specs.Laws.{AcceptsCase};
 ghost use Rattle.dcr_adapt.specs.Stages.{Says, line_texts, of_stage, stage_in, stages_from, stages_in};
 
 use crate::StageStop;
 use crate::dropping::keep_atoms;
 use crate::lines::{count_lines, cut};
-use dcr_json::{Case, CaseStop, read_case};
+use dcr_json::{Case, CaseStop};
+use dcr_roles::{AcceptStop, Accepted, PolicyStop, read_accepted};
 use std::alloc::Global;
 
 // The most stages.
 const MAX_STAGES: u32 = 16;
 
 /// The cases that a text spells, one in each line, or the first refusal. Lines are the pieces between line feeds, and what
-/// stands behind the last of these, where it is anything.
+/// stands behind the last of these, where it is anything. Each case is accepted: its policy denies no call of its sessions.
 ///
 /// `Cases` comes exactly where the lines are not 1 to 16. Else the stages are tried in order, each by itself and then
-/// against the one before it: `Stage` comes where its line is refused as a case, and `Dropped` where an atom of the case
-/// before has a name that none of its atoms has. `NoMemory` may come in the place of any answer but `Cases` and a first
-/// line that is too long, which take none.
+/// against the one before it: `Stage` comes where its line is refused as a case, `Policy` where it is a case whose policy is
+/// refused, and `Dropped` where an atom of the case before has a name that none of its atoms has. `NoMemory` may come in
+/// the place of any answer but `Cases` and a first line that is too long, which take none.
 #[tactic(auto, unfolding(crate::specs::Stages::stages_in))]
 pub fn read_stages(alloc: Global, bytes: &[u8]) -> Result<Vec<Case>, StageStop>
     requires { length bytes.now < 2 ^ 32 }
@@ -32,6 +35,8 @@ pub fn read_stages(alloc: Global, bytes: &[u8]) -> Result<Vec<Case>, StageStop>
         → result ≡ Err (StageStop.Stage 0 CaseStop.TooLong) }
     ensures lines { IfOk result (λ cases.
         AllZip (λ text (case : Case). case_in text ≡ Ok (case_of case)) (line_texts bytes.now) cases.items) }
+    ensures accepted { IfOk result (λ cases.
+        AllZip (λ text (case : Case). AcceptsCase text (case_of case)) (line_texts bytes.now) cases.items) }
     ensures fits { IfOk result (λ cases. All IsCase cases.items) }
 {
     let count = count_lines(bytes);
@@ -50,6 +55,8 @@ fn read_each(alloc: Global, bytes: &[u8], count: u32) -> Result<Vec<Case>, Stage
         → result ≡ Err (StageStop.Stage 0 CaseStop.TooLong) }
     ensures lines { IfOk result (λ cases.
         AllZip (λ text (case : Case). case_in text ≡ Ok (case_of case)) (line_texts bytes.now) cases.items) }
+    ensures accepted { IfOk result (λ cases.
+        AllZip (λ text (case : Case). AcceptsCase text (case_of case)) (line_texts bytes.now) cases.items) }
     ensures fits { IfOk result (λ cases. All IsCase cases.items) }
 {
     let mut cases = Vec::new(alloc);
@@ -70,7 +77,7 @@ fn read_stage(alloc: Global, i: u32, line: &[u8], before: Option<&Case>) -> Resu
     ensures says { Says case_of result
         (stage_in i (option_map (λ (was : Bor Case). case_of was.now) before.entry) line.now) }
     ensures too_long { 16777216 < length line.now → result ≡ Err (StageStop.Stage i CaseStop.TooLong) }
-    ensures spells { IfOk result (λ case. case_in line.now ≡ Ok (case_of case)) }
+    ensures spells { IfOk result (λ case. AcceptsCase line.now (case_of case)) }
     ensures fits { IfOk result IsCase }
 {
     let case = read_line(alloc, i, line)?;
@@ -78,16 +85,31 @@ fn read_stage(alloc: Global, i: u32, line: &[u8], before: Option<&Case>) -> Resu
     Ok(case)
 }
 
-// The case of a line by itself.
+// The case of a line by itself. Its policy has been read then, and is let go.
 fn read_line(alloc: Global, i: u32, line: &[u8]) -> Result<Case, StageStop>
-    ensures says { Says case_of result (of_stage i (case_in line.now)) }
+    ensures says { Says case_of result (of_stage i (accepted_in line.now)) }
     ensures too_long { 16777216 < length line.now → result ≡ Err (StageStop.Stage i CaseStop.TooLong) }
-    ensures spells { IfOk result (λ case. case_in line.now ≡ Ok (case_of case)) }
+    ensures spells { IfOk result (λ case. AcceptsCase line.now (case_of case)) }
     ensures fits { IfOk result IsCase }
 {
-    match read_case(alloc, line) {
-        Ok(case) => Ok(case),
-        Err(CaseStop::NoMemory) => Err(StageStop::NoMemory),
-        Err(stop) => Err(StageStop::Stage { i, stop }),
+    match read_accepted(alloc, line) {
+        Ok(
+            Accepted {
+                case,
+                policy: _policy,
+            },
+        ) => Ok(case),
+        Err(
+            AcceptStop::Case {
+                stop: CaseStop::NoMemory,
+            },
+        ) => Err(StageStop::NoMemory),
+        Err(AcceptStop::Case { stop }) => Err(StageStop::Stage { i, stop }),
+        Err(
+            AcceptStop::Policy {
+                stop: PolicyStop::NoMemory,
+            },
+        ) => Err(StageStop::NoMemory),
+        Err(AcceptStop::Policy { stop }) => Err(StageStop::Policy { i, stop }),
     }
 }

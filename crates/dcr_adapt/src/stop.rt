@@ -1,5 +1,6 @@
 use dcr_graph::Name;
 use dcr_json::CaseStop;
+use dcr_roles::PolicyStop;
 use dcr_set::NoMemory;
 use std::alloc::AllocFailed;
 use thiserror::Error;
@@ -14,6 +15,10 @@ pub enum StageStop {
     /// The line with this number, from 0, is refused as a case. The cause is never `NoMemory`.
     #[error("a line that is no case")]
     Stage { i: u32, stop: CaseStop },
+    /// The line with this number, from 0, is a case, and its policy is refused, or denies a call of its sessions. The
+    /// cause is never `NoMemory`.
+    #[error("a line whose policy is refused")]
+    Policy { i: u32, stop: PolicyStop },
     /// The line with this number, from 1 on, is a case in which no atom has this name, which the least such atom of the
     /// case before it has.
     #[error("an event of the case before is no event any more")]

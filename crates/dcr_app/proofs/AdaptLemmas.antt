@@ -1,6 +1,6 @@
 -- What `adapt` answers.
-use Rattle.std.proofs.Common.{◌≡◌, ◌≢◌, ◌⊎◌, ℕ, zero, suc, ◌+◌, ◌-◌, ◌<◌, ◌≤◌, arith, List, [], ◌∷◌, ◌++◌, length, drop, map, take, flat_map, Option, Some, None, Result, Ok, Err, IfSome, inl, inr, refl, sym, ap, subst, ◌∙◌}
-use Rattle.std.specs.Prelude.{⊤, codes}
+use Rattle.std.proofs.Common.{◌≡◌, ◌≢◌, ◌⊎◌, ℕ, zero, suc, ◌+◌, ◌-◌, ◌<◌, ◌≤◌, arith, List, [], ◌∷◌, ◌++◌, length, drop, map, take, Option, Some, None, Result, Ok, Err, IfSome, inl, inr, refl, sym, ap, subst, ◌∙◌}
+use Rattle.std.specs.Prelude.{⊤}
 use Rattle.std.specs.Io.KnownBytes.{Appends}
 use Rattle.std.specs.List.{All, slice_get}
 use Rattle.std.proofs.lemmas.List.{append-nil, length-append, take_all, take-append-le}
@@ -8,7 +8,6 @@ use Rattle.std.proofs.lemmas.List.Elements.{All-cons, All-nil}
 use Rattle.dcr_base.specs.Disk.{DiskView}
 use Rattle.dcr_base.specs.declared.status.Status.{Status}
 use Rattle.dcr_base.specs.declared.status.Status.TheVariants.{Done, Usage, Refused, ReadFault, WriteFault, NoMemory, DiskFault, Invalid, Full, TapeRefused, DoorFault}
-use Rattle.dcr_set.specs.EventSet.{Set}
 use Rattle.dcr_graph.specs.Cause.{waits}
 use Rattle.dcr_graph.specs.GraphValue.{Flat, rules_of}
 use Rattle.dcr_graph.specs.Projection.{HasRoom}
@@ -36,10 +35,10 @@ use Rattle.dcr_adapt.specs.Carried.{carried}
 use Rattle.dcr_adapt.specs.Stages.{stages_in}
 use Rattle.dcr_adapt.specs.declared.stop.StageStop.{StageStop}
 use Rattle.dcr_adapt.specs.declared.stop.StageStop.TheVariants as stage
-use Rattle.dcr_app.specs.Adapted.{AdaptRefusal, AnswersStages, BeginsAsWritten, BeginsAt, EndsStages, GoesOn, IsAdaptRefused, IsAnsweredStages, IsRefusedAdapt, IsRunOfStage, IsToldOf, RanStage, RefusesStages, RunsStages, Stage, TellsStages, WroteReports, adapt_line, case_of_stage, ending_of, history_of, no_stages, report_of, reports_of, stage_line, stages_from, too_long}
+use Rattle.dcr_app.specs.Adapted.{AdaptRefusal, AnswersStages, BeginsAsWritten, BeginsAt, EndsStages, GoesOn, IsAdaptRefused, IsAnsweredStages, IsRunOfStage, IsToldOf, RanStage, RefusesStages, RunsStages, Stage, WroteReports, adapt_line, case_of_stage, ending_of, history_of, no_stages, report_of, reports_of, stage_line, stages_from, too_long}
 use Rattle.dcr_app.specs.Headline.{rules_in}
 use Rattle.dcr_app.specs.Outside.{IsSilent, Stopped, WereLeft, Wrote}
-use Rattle.dcr_app.specs.Refusal.{refusal_line}
+use Rattle.dcr_app.specs.Refusal.{case_line}
 use Rattle.dcr_app.specs.Telling.{atoms_in}
 use Rattle.dcr_app.specs.declared.answer.Answer.{Answer}
 use Rattle.dcr_app.proofs.ApartLemmas.{EndsApart}
@@ -390,7 +389,7 @@ refused_with left has_ended bytes why had took status told_run none read refuses
     inl (none, inr (record { bytes = bytes; read = read; why = why; refuses = refuses; line = wrote }))
 
 pub too_long_stages : (left : Option (List ℕ)) (has_ended : Type 0) (had took : Option (List ℕ)) (status : Status) (told_run : Option Closed) → told_run ≡ None
-    → IfSome left (λ bytes. 16777216 < length bytes) → IsSilent status had took ⊎ Wrote Refused (refusal_line stop.TooLong) status had took → AnswersStages left has_ended had took status told_run
+    → IfSome left (λ bytes. 16777216 < length bytes) → IsSilent status had took ⊎ Wrote Refused (case_line stop.TooLong) status had took → AnswersStages left has_ended had took status told_run
 too_long_stages None has_ended had took status told_run none more line =
     let it = longer_than 16777216 in refused_with None has_ended it.0 too_long had took status told_run none tt it.1 line
 too_long_stages (Some bytes) has_ended had took status told_run none more line = refused_with (Some bytes) has_ended bytes too_long had took status told_run none refl more line

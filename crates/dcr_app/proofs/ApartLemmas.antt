@@ -1,5 +1,5 @@
 -- What `nodes` answers.
-use Rattle.std.proofs.Common.{◌≡◌, ◌≢◌, ◌⊎◌, ℕ, ◌<◌, ◌≤◌, List, length, Option, Some, None, Ok, Err, IfSome, inl, inr, refl, sym, ap, subst, ◌∙◌}
+use Rattle.std.proofs.Common.{◌≡◌, ◌⊎◌, ℕ, ◌<◌, ◌≤◌, List, length, Option, Some, None, Ok, Err, IfSome, inl, inr, refl, sym, ap, subst, ◌∙◌}
 use Rattle.std.specs.Prelude.{⊤, false}
 use Rattle.std.specs.List.{All}
 use Rattle.std.proofs.lemmas.List.{length-map}
@@ -19,19 +19,20 @@ use Rattle.dcr_node.specs.WorldState.{WorldState}
 use Rattle.dcr_schedule.specs.Apart.{HasRunApart}
 use Rattle.dcr_schedule.specs.Executions.{exec_calls}
 use Rattle.dcr_reading.specs.Accepted.{IsAcceptedCover, IsAcceptedGraph}
-use Rattle.dcr_json.specs.Case.{case_in}
 use Rattle.dcr_json.specs.Judged.{Spelled}
-use Rattle.dcr_json.specs.Refusals.{CasesAreTheFormats, SpellsCase}
-use Rattle.dcr_json.specs.declared.case.CaseStop.{CaseStop}
 use Rattle.dcr_json.specs.declared.case.CaseStop.TheVariants as stop
 use Rattle.dcr_report.specs.Report.{report_text}
 use Rattle.dcr_set.specs.EventSet.{Set}
+use Rattle.dcr_roles.specs.Accepted.{HadMemory, WantedMemory, case_accepted}
+use Rattle.dcr_roles.specs.Laws.{AcceptsCase}
+use Rattle.dcr_roles.specs.declared.accepted.AcceptStop.{AcceptStop}
+use Rattle.dcr_roles.specs.declared.accepted.AcceptStop.TheVariants as accept
 use Rattle.dcr_app.specs.Answers.{AnswersApart, EndsRun, IsAnsweredCase, RefusesCase, TellsApart, WroteReport}
 use Rattle.dcr_app.specs.Headline.{rules_in}
 use Rattle.dcr_app.specs.Outside.{IsSilent, WereLeft, Wrote}
-use Rattle.dcr_app.specs.Refusal.{refusal_line}
+use Rattle.dcr_app.specs.Refusal.{case_line, refusal_line}
 use Rattle.dcr_app.proofs.OutsideLemmas.{ends_as, longer_than, were_left, wrote_at}
-use Rattle.dcr_app.proofs.RunLemmas.{is_memory, report_of_run, too_long, wrote_report}
+use Rattle.dcr_app.proofs.RunLemmas.{CasesAreAccepted, is_memory, report_of_run, too_long, wrote_report}
 
 -- ---- the run
 
@@ -68,7 +69,7 @@ verdict_apart G C M sessions world closed ran =
     ∙ ap (λ (N : Marking). waits G.atoms (after G N closed.history.entries)) (sym ran.closes.opening))
 
 -- the run of a case that these bytes spell
-pub tells_apart : CasesAreTheFormats → (bytes : List ℕ) (case : Spelled) (had took : Option (List ℕ)) (status : Status) (closed : Closed) (world : WorldState) → case_in bytes ≡ Ok case
+pub tells_apart : CasesAreAccepted → (bytes : List ℕ) (case : Spelled) (had took : Option (List ℕ)) (status : Status) (closed : Closed) (world : WorldState) → case_accepted bytes ≡ Ok case
     → HasRunApart (rules_in case) case.cover.owned case.opening case.sessions world closed
     → Wrote Done (report_text case.nested case.cover closed.opening closed.history.entries) status had took → TellsApart (Some bytes) ⊤ had took status closed world
 tells_apart law bytes case had took status closed world spelled ran wrote = record {
@@ -101,10 +102,10 @@ pub apart_from : (left : Option (List ℕ)) (has_ended : Type 0) (bytes : List �
     → IfSome left (λ it. bytes ≡ it) → has_ended → AnswersApart (Some bytes) ⊤ had took status told_run world → AnswersApart left has_ended had took status told_run world
 apart_from left has_ended bytes had took status None None same ended (inl silent) = inl silent
 apart_from left has_ended bytes had took status None None same ended (inr it) =
-    inr (record { bytes = bytes; read = were_left left bytes same; why = it.why; refuses = ap case_in it.read ∙ it.refuses; named = it.named; line = it.line })
+    inr (record { bytes = bytes; read = were_left left bytes same; why = it.why; refuses = ap case_accepted it.read ∙ it.refuses; named = it.named; line = it.line })
 apart_from left has_ended bytes had took status (Some closed) (Some world) same ended it = record {
   case = it.case;
-  input = (bytes, were_left left bytes same, subst (λ b. SpellsCase b it.case) (sym it.input.1) it.input.2, ended);
+  input = (bytes, were_left left bytes same, subst (λ b. AcceptsCase b it.case) (sym it.input.1) it.input.2, ended);
   ran = it.ran;
   report = it.report;
 }
@@ -118,8 +119,8 @@ pub silent_apart : (left : Option (List ℕ)) (has_ended : Type 0) (had took : O
 silent_apart left has_ended had took status told_run world none nowhere silent =
     subst (λ t. AnswersApart left has_ended had took status t world) (sym none) (subst (λ x. AnswersApart left has_ended had took status None x) (sym nowhere) (inl silent))
 
-refused_apart : (left : Option (List ℕ)) (has_ended : Type 0) (bytes : List ℕ) (why : CaseStop) (had took : Option (List ℕ)) (status : Status) (told_run : Option Closed) (world : Option WorldState)
-    → told_run ≡ None → world ≡ None → WereLeft left bytes → case_in bytes ≡ Err why → why ≢ stop.NoMemory
+refused_apart : (left : Option (List ℕ)) (has_ended : Type 0) (bytes : List ℕ) (why : AcceptStop) (had took : Option (List ℕ)) (status : Status) (told_run : Option Closed) (world : Option WorldState)
+    → told_run ≡ None → world ≡ None → WereLeft left bytes → case_accepted bytes ≡ Err why → HadMemory why
     → IsSilent status had took ⊎ Wrote Refused (refusal_line why) status had took → AnswersApart left has_ended had took status told_run world
 refused_apart left has_ended bytes why had took status told_run world none nowhere read refuses named (inl silent) =
     silent_apart left has_ended had took status told_run world none nowhere silent
@@ -127,9 +128,9 @@ refused_apart left has_ended bytes why had took status told_run world none nowhe
     subst (λ t. AnswersApart left has_ended had took status t world) (sym none) (subst (λ x. AnswersApart left has_ended had took status None x) (sym nowhere)
     (inr (record { bytes = bytes; read = read; why = why; refuses = refuses; named = named; line = wrote })))
 
-pub stopped_apart : (left : Option (List ℕ)) (has_ended : Type 0) (bytes : List ℕ) (why : CaseStop) (had took : Option (List ℕ)) (status : Status) (told_run : Option Closed) (world : Option WorldState)
-    → told_run ≡ None → world ≡ None → WereLeft left bytes → (why ≢ stop.NoMemory → case_in bytes ≡ Err why)
-    → (why ≢ stop.NoMemory → IsSilent status had took ⊎ Wrote Refused (refusal_line why) status had took) → (why ≡ stop.NoMemory → IsSilent status had took)
+pub stopped_apart : (left : Option (List ℕ)) (has_ended : Type 0) (bytes : List ℕ) (why : AcceptStop) (had took : Option (List ℕ)) (status : Status) (told_run : Option Closed) (world : Option WorldState)
+    → told_run ≡ None → world ≡ None → WereLeft left bytes → (HadMemory why → case_accepted bytes ≡ Err why)
+    → (HadMemory why → IsSilent status had took ⊎ Wrote Refused (refusal_line why) status had took) → (WantedMemory why → IsSilent status had took)
     → AnswersApart left has_ended had took status told_run world
 stopped_apart left has_ended bytes why had took status told_run world none nowhere read refuses line silent = elim (is_memory why) [
   | inl e ↦ silent_apart left has_ended had took status told_run world none nowhere (silent e)
@@ -137,12 +138,12 @@ stopped_apart left has_ended bytes why had took status told_run world none nowhe
 ]
 
 pub too_long_apart : (left : Option (List ℕ)) (has_ended : Type 0) (had took : Option (List ℕ)) (status : Status) (told_run : Option Closed) (world : Option WorldState) → told_run ≡ None
-    → world ≡ None → IfSome left (λ bytes. 16777216 < length bytes) → IsSilent status had took ⊎ Wrote Refused (refusal_line stop.TooLong) status had took
+    → world ≡ None → IfSome left (λ bytes. 16777216 < length bytes) → IsSilent status had took ⊎ Wrote Refused (case_line stop.TooLong) status had took
     → AnswersApart left has_ended had took status told_run world
 too_long_apart None has_ended had took status told_run world none nowhere more line =
-    let it = longer_than 16777216 in refused_apart None has_ended it.0 stop.TooLong had took status told_run world none nowhere tt (too_long it.0 it.1) (λ e. absurd cc) line
+    let it = longer_than 16777216 in refused_apart None has_ended it.0 (accept.Case stop.TooLong) had took status told_run world none nowhere tt (too_long it.0 it.1) (λ e. absurd cc) line
 too_long_apart (Some bytes) has_ended had took status told_run world none nowhere more line =
-    refused_apart (Some bytes) has_ended bytes stop.TooLong had took status told_run world none nowhere refl (too_long bytes more) (λ e. absurd cc) line
+    refused_apart (Some bytes) has_ended bytes (accept.Case stop.TooLong) had took status told_run world none nowhere refl (too_long bytes more) (λ e. absurd cc) line
 
 -- ---- what is known of its end
 
@@ -204,24 +205,24 @@ refuses_apart left has_ended had took status (Some closed) None it is = elim it 
 
 -- ---- what an input and an output that don't fail end with
 
-ends_by : (law : CasesAreTheFormats) (disk : DiskView) (bytes : List ℕ) (case : Spelled) (status : Status) → SpellsCase bytes case → EndsRun status
-    → IsAnsweredCase EndsRun false disk (case_in bytes) status
+ends_by : (law : CasesAreAccepted) (disk : DiskView) (bytes : List ℕ) (case : Spelled) (status : Status) → AcceptsCase bytes case → EndsRun status
+    → IsAnsweredCase EndsRun false disk (case_accepted bytes) status
 ends_by law disk bytes case status spells ends = subst (λ r. IsAnsweredCase EndsRun false disk r status) (sym ((law bytes case).1 spells)) ends
 
-pub answered_apart : CasesAreTheFormats → (disk : DiskView) (left : Option (List ℕ)) (has_ended : Type 0) (had took : Option (List ℕ)) (status : Status) (told_run : Option Closed)
+pub answered_apart : CasesAreAccepted → (disk : DiskView) (left : Option (List ℕ)) (has_ended : Type 0) (had took : Option (List ℕ)) (status : Status) (told_run : Option Closed)
     (world : Option WorldState) → (status ≡ ReadFault → ⊥) → (status ≡ WriteFault → ⊥) → AnswersApart left has_ended had took status told_run world
-    → IfSome left (λ bytes. IsAnsweredCase EndsRun false disk (case_in bytes) status)
+    → IfSome left (λ bytes. IsAnsweredCase EndsRun false disk (case_accepted bytes) status)
 answered_apart law disk None has_ended had took status told_run world reads writes it = tt
 answered_apart law disk (Some bytes) has_ended had took status None None reads writes (inl silent) = elim silent.0 [
   | inl e ↦ absurd (reads e)
-  | inr e ↦ starves (case_in bytes) e
+  | inr e ↦ starves (case_accepted bytes) e
 ]
   where
     starves : (r : _) → status ≡ NoMemory → IsAnsweredCase EndsRun false disk r status
     starves (Ok case) e = inr e
     starves (Err why) e = inr e
 answered_apart law disk (Some bytes) has_ended had took status None None reads writes (inr it) =
-    subst (λ r. IsAnsweredCase EndsRun false disk r status) (sym (ap case_in it.read ∙ it.refuses)) (elim (ends_as Refused (refusal_line it.why) status had took it.line) [
+    subst (λ r. IsAnsweredCase EndsRun false disk r status) (sym (ap case_accepted it.read ∙ it.refuses)) (elim (ends_as Refused (refusal_line it.why) status had took it.line) [
       | inl e ↦ inl e
       | inr other ↦ elim other [
         | inl e ↦ absurd (writes e)
@@ -229,7 +230,7 @@ answered_apart law disk (Some bytes) has_ended had took status None None reads w
       ]
     ])
 answered_apart law disk (Some bytes) has_ended had took status (Some closed) (Some world) reads writes it =
-    ends_by law disk bytes it.case status (subst (λ b. SpellsCase b it.case) (sym it.input.1) it.input.2) (elim (ends_as Done _ status had took it.report) [
+    ends_by law disk bytes it.case status (subst (λ b. AcceptsCase b it.case) (sym it.input.1) it.input.2) (elim (ends_as Done _ status had took it.report) [
       | inl e ↦ inl e
       | inr other ↦ elim other [
         | inl e ↦ absurd (writes e)

@@ -1,5 +1,5 @@
 -- What `conform` answers.
-use Rattle.std.proofs.Common.{◌≡◌, ◌≢◌, ◌⊎◌, ℕ, ◌+◌, ◌<◌, ◌≤◌, arith, Bool, true, false, nat_le, List, [], ◌∷◌, length, drop, take, get_or, Option, Some, None, Result, Ok, Err, IfSome, inl, inr, refl, sym, ap, subst, ◌∙◌, cond}
+use Rattle.std.proofs.Common.{◌≡◌, ◌≢◌, ◌⊎◌, ℕ, ◌+◌, ◌<◌, ◌≤◌, arith, List, [], length, drop, take, get_or, Option, Some, None, Result, Ok, Err, IfSome, inl, inr, refl, sym, ap, subst, ◌∙◌, cond}
 use Rattle.std.specs.Prelude.{⊤}
 use Rattle.std.proofs.lemmas.Bool.{le-leb, lt-leb}
 use Rattle.std.proofs.lemmas.List.{drop_all, length-take-le}
@@ -8,10 +8,7 @@ use Rattle.dcr_base.specs.declared.status.Status.TheVariants.{Done, Refused, Rea
 use Rattle.dcr_graph.specs.GraphValue.{Flat}
 use Rattle.dcr_nest.specs.FlatRelation.{IsFlattening}
 use Rattle.dcr_line.proofs.PiecesLemmas.{pieces_at, pieces_whole}
-use Rattle.dcr_json.specs.Case.{case_in}
 use Rattle.dcr_json.specs.Judged.{Spelled}
-use Rattle.dcr_json.specs.Refusals.{CasesAreTheFormats, SpellsCase}
-use Rattle.dcr_json.specs.declared.case.CaseStop.{CaseStop}
 use Rattle.dcr_json.specs.declared.case.CaseStop.TheVariants as stop
 use Rattle.dcr_log.specs.Records.{first_bad}
 use Rattle.dcr_log.specs.Traces.{traces_of}
@@ -19,13 +16,16 @@ use Rattle.dcr_log.specs.declared.trace.Trace.{Trace}
 use Rattle.dcr_conform.specs.Judge.{AreJudged}
 use Rattle.dcr_conform.specs.Lines.{judged_text}
 use Rattle.dcr_conform.specs.declared.judged.Judged.{Judged}
-use Rattle.dcr_app.specs.Logged.{AnswersLog, EndsLog, InputRefusal, IsAnsweredLog, IsInputRefused, IsRefusedInput, RefusesInput, TellsLog, bad_record, case_before_log, case_text, first_piece, input_line, log_text, no_case, record_line, rows_in}
+use Rattle.dcr_roles.specs.Accepted.{HadMemory, WantedMemory, case_accepted}
+use Rattle.dcr_roles.specs.declared.accepted.AcceptStop.{AcceptStop}
+use Rattle.dcr_roles.specs.declared.accepted.AcceptStop.TheVariants as accept
+use Rattle.dcr_app.specs.Logged.{AnswersLog, EndsLog, InputRefusal, IsAnsweredLog, IsInputRefused, RefusesInput, bad_record, case_before_log, case_text, first_piece, input_line, log_text, no_case, record_line, rows_in}
 use Rattle.dcr_app.specs.Outside.{IsSilent, WereLeft, Wrote}
-use Rattle.dcr_app.specs.Refusal.{refusal_line}
+use Rattle.dcr_app.specs.Refusal.{case_line, refusal_line}
 use Rattle.dcr_app.proofs.ApartLemmas.{EndsApart}
 use Rattle.dcr_app.proofs.FaultlessLemmas.{due_or}
 use Rattle.dcr_app.proofs.OutsideLemmas.{ends_as, longer_than, were_left, wrote_at}
-use Rattle.dcr_app.proofs.RunLemmas.{is_memory}
+use Rattle.dcr_app.proofs.RunLemmas.{CasesAreAccepted, is_memory}
 
 -- ---- the two parts of the input
 
@@ -44,11 +44,11 @@ pub log_none : (bytes : List ℕ) → bytes ≡ case_text bytes → [] ≡ log_t
 log_none bytes same = sym (drop_all (length (case_text bytes) + 1) bytes (let fits = ap length same in omega (arith, fits)))
 
 -- the case of an input that isn't too long is that of its first line
-pub within_limit : (bytes : List ℕ) → length bytes ≤ 16777216 → case_before_log bytes ≡ case_in (case_text bytes)
-within_limit bytes short = ap (λ t. cond t (case_in (case_text bytes)) (Err stop.TooLong)) (le-leb (length bytes) 16777216 short)
+pub within_limit : (bytes : List ℕ) → length bytes ≤ 16777216 → case_before_log bytes ≡ case_accepted (case_text bytes)
+within_limit bytes short = ap (λ t. cond t (case_accepted (case_text bytes)) (Err (accept.Case stop.TooLong))) (le-leb (length bytes) 16777216 short)
 
-over_limit : (bytes : List ℕ) → 16777216 < length bytes → case_before_log bytes ≡ Err stop.TooLong
-over_limit bytes more = ap (λ t. cond t (case_in (case_text bytes)) (Err stop.TooLong)) (lt-leb (length bytes) 16777216 more)
+over_limit : (bytes : List ℕ) → 16777216 < length bytes → case_before_log bytes ≡ Err (accept.Case stop.TooLong)
+over_limit bytes more = ap (λ t. cond t (case_accepted (case_text bytes)) (Err (accept.Case stop.TooLong))) (lt-leb (length bytes) 16777216 more)
 
 -- ---- refusals
 
@@ -59,23 +59,23 @@ refused_with left has_ended bytes why had took status read refuses (inr wrote) =
     inr (inl (record { bytes = bytes; read = read; why = why; refuses = refuses; line = wrote }))
 
 pub too_long_log : (left : Option (List ℕ)) (has_ended : Type 0) (had took : Option (List ℕ)) (status : Status) → IfSome left (λ bytes. 16777216 < length bytes)
-    → IsSilent status had took ⊎ Wrote Refused (refusal_line stop.TooLong) status had took → AnswersLog left has_ended had took status
+    → IsSilent status had took ⊎ Wrote Refused (case_line stop.TooLong) status had took → AnswersLog left has_ended had took status
 too_long_log None has_ended had took status more line =
-    let it = longer_than 16777216 in refused_with None has_ended it.0 (no_case stop.TooLong) had took status tt (over_limit it.0 it.1, λ e. absurd cc) line
+    let it = longer_than 16777216 in refused_with None has_ended it.0 (no_case (accept.Case stop.TooLong)) had took status tt (over_limit it.0 it.1, λ e. absurd cc) line
 too_long_log (Some bytes) has_ended had took status more line =
-    refused_with (Some bytes) has_ended bytes (no_case stop.TooLong) had took status refl (over_limit bytes more, λ e. absurd cc) line
+    refused_with (Some bytes) has_ended bytes (no_case (accept.Case stop.TooLong)) had took status refl (over_limit bytes more, λ e. absurd cc) line
 
 -- the first line is refused
-pub stopped_log : (bytes line : List ℕ) (why : CaseStop) (had took : Option (List ℕ)) (status : Status) → length bytes ≤ 16777216 → line ≡ case_text bytes
-    → (why ≢ stop.NoMemory → case_in line ≡ Err why) → (why ≢ stop.NoMemory → IsSilent status had took ⊎ Wrote Refused (refusal_line why) status had took)
-    → (why ≡ stop.NoMemory → IsSilent status had took) → AnswersLog (Some bytes) ⊤ had took status
+pub stopped_log : (bytes line : List ℕ) (why : AcceptStop) (had took : Option (List ℕ)) (status : Status) → length bytes ≤ 16777216 → line ≡ case_text bytes
+    → (HadMemory why → case_accepted line ≡ Err why) → (HadMemory why → IsSilent status had took ⊎ Wrote Refused (refusal_line why) status had took)
+    → (WantedMemory why → IsSilent status had took) → AnswersLog (Some bytes) ⊤ had took status
 stopped_log bytes line why had took status short same refuses told silent = elim (is_memory why) [
   | inl e ↦ inl (silent e)
-  | inr e ↦ refused_with (Some bytes) ⊤ bytes (no_case why) had took status refl (within_limit bytes short ∙ (ap case_in (sym same) ∙ refuses e), e) (told e)
+  | inr e ↦ refused_with (Some bytes) ⊤ bytes (no_case why) had took status refl (within_limit bytes short ∙ (ap case_accepted (sym same) ∙ refuses e), e) (told e)
 ]
 
 -- the log behind a case is refused
-pub bad_log : (bytes : List ℕ) (case : Spelled) (row : ℕ) (had took : Option (List ℕ)) (status : Status) → length bytes ≤ 16777216 → case_in (case_text bytes) ≡ Ok case
+pub bad_log : (bytes : List ℕ) (case : Spelled) (row : ℕ) (had took : Option (List ℕ)) (status : Status) → length bytes ≤ 16777216 → case_accepted (case_text bytes) ≡ Ok case
     → first_bad (rows_in bytes) ≡ Some row → IsSilent status had took ⊎ Wrote Refused (record_line row) status had took → AnswersLog (Some bytes) ⊤ had took status
 bad_log bytes case row had took status short spelled bad line =
     refused_with (Some bytes) ⊤ bytes (bad_record row) had took status refl (case, within_limit bytes short ∙ spelled, bad) line
@@ -83,8 +83,8 @@ bad_log bytes case row had took status short spelled bad line =
 -- ---- answers
 
 -- the traces were judged
-pub told_log : CasesAreTheFormats → (bytes : List ℕ) (case : Spelled) (graph : Flat) (traces : List Trace) (had took : Option (List ℕ)) (status : Status) → length bytes ≤ 16777216
-    → case_in (case_text bytes) ≡ Ok case → first_bad (rows_in bytes) ≡ None → IsFlattening case.nested graph → traces ≡ traces_of (drop 1 (rows_in bytes))
+pub told_log : CasesAreAccepted → (bytes : List ℕ) (case : Spelled) (graph : Flat) (traces : List Trace) (had took : Option (List ℕ)) (status : Status) → length bytes ≤ 16777216
+    → case_accepted (case_text bytes) ≡ Ok case → first_bad (rows_in bytes) ≡ None → IsFlattening case.nested graph → traces ≡ traces_of (drop 1 (rows_in bytes))
     → IsSilent status had took ⊎ ((answers : List Judged) × AreJudged graph case.opening traces answers × Wrote Done (judged_text graph.names traces answers) status had took)
     → AnswersLog (Some bytes) ⊤ had took status
 told_log law bytes case graph traces had took status short spelled good flat same (inl silent) = inl silent
@@ -149,18 +149,18 @@ refuses_log left has_ended had took status (inr (inr it)) is =
 
 -- ---- what an input and an output that don't fail end with
 
-starved_log : (r : Result Spelled CaseStop) (found : Option ℕ) (status : Status) → status ≡ NoMemory → EndsLog r found status
+starved_log : (r : Result Spelled AcceptStop) (found : Option ℕ) (status : Status) → status ≡ NoMemory → EndsLog r found status
 starved_log (Err why) found status e = inr e
 starved_log (Ok case) (Some row) status e = inr e
 starved_log (Ok case) None status e = inr e
 
 refused_end : (bytes : List ℕ) (why : InputRefusal) (status : Status) → IsInputRefused bytes why → (status ≡ Refused) ⊎ (status ≡ NoMemory) → IsAnsweredLog bytes status
-refused_end bytes (no_case why) status refuses ends = subst (λ (r : Result Spelled CaseStop). EndsLog r (first_bad (rows_in bytes)) status) (sym refuses.0) ends
+refused_end bytes (no_case why) status refuses ends = subst (λ (r : Result Spelled AcceptStop). EndsLog r (first_bad (rows_in bytes)) status) (sym refuses.0) ends
 refused_end bytes (bad_record row) status refuses ends =
-    subst (λ (r : Result Spelled CaseStop). EndsLog r (first_bad (rows_in bytes)) status) (sym refuses.1)
+    subst (λ (r : Result Spelled AcceptStop). EndsLog r (first_bad (rows_in bytes)) status) (sym refuses.1)
     (subst (λ (found : Option ℕ). EndsLog (Ok refuses.0) found status) (sym refuses.2) ends)
 
-pub answered_log : CasesAreTheFormats → (left : Option (List ℕ)) (has_ended : Type 0) (had took : Option (List ℕ)) (status : Status) → (status ≡ ReadFault → ⊥) → (status ≡ WriteFault → ⊥)
+pub answered_log : CasesAreAccepted → (left : Option (List ℕ)) (has_ended : Type 0) (had took : Option (List ℕ)) (status : Status) → (status ≡ ReadFault → ⊥) → (status ≡ WriteFault → ⊥)
     → AnswersLog left has_ended had took status → IfSome left (λ bytes. IsAnsweredLog bytes status)
 answered_log law None has_ended had took status reads writes it = tt
 answered_log law (Some bytes) has_ended had took status reads writes (inl silent) = elim silent.0 [
@@ -172,6 +172,6 @@ answered_log law (Some bytes) has_ended had took status reads writes (inr (inl i
 answered_log law (Some bytes) has_ended had took status reads writes (inr (inr it)) =
     let is : case_before_log it.input.0 ≡ Ok it.case = within_limit it.input.0 it.input.2 ∙ (law (case_text it.input.0) it.case).1 it.input.3 in
     subst (λ b. IsAnsweredLog b status) (sym it.input.1)
-    (subst (λ (r : Result Spelled CaseStop). EndsLog r (first_bad (rows_in it.input.0)) status) (sym is)
+    (subst (λ (r : Result Spelled AcceptStop). EndsLog r (first_bad (rows_in it.input.0)) status) (sym is)
     (subst (λ (found : Option ℕ). EndsLog (Ok it.case) found status) (sym it.input.4)
     (due_or Done (judged_text it.graph.names (traces_of (drop 1 (rows_in it.input.0))) it.answers) status had took writes it.wrote)))

@@ -12,11 +12,11 @@ use Rattle.dcr_tape.specs.Tape.{StandsFor}
 use Rattle.dcr_tape.specs.declared.cause.TapeCause.{TapeCause}
 use Rattle.dcr_tape.specs.declared.entry.TapeEntry.{TapeEntry}
 use Rattle.dcr_cluster.specs.Opening.{ArePossible, IsFirstBad}
-use Rattle.dcr_json.specs.Case.{case_in}
 use Rattle.dcr_json.specs.Judged.{Spelled}
-use Rattle.dcr_json.specs.Refusals.{CasesAreTheFormats}
-use Rattle.dcr_json.specs.declared.case.CaseStop.{CaseStop}
 use Rattle.dcr_report.specs.Report.{report_text}
+use Rattle.dcr_roles.specs.Accepted.{case_accepted}
+use Rattle.dcr_roles.specs.Laws.{AcceptedAreTheFormats}
+use Rattle.dcr_roles.specs.declared.accepted.AcceptStop.{AcceptStop}
 use Rattle.dcr_app.specs.Answers.{AnswersCase, IsAnsweredCase, IsOr, IsTapeRefused, TellsNone, TellsRun, is_silent, is_refused, has_failed, is_tape_refused}
 use Rattle.dcr_app.specs.Headline.{cluster_in, digest_of}
 use Rattle.dcr_app.specs.Outside.{Wrote}
@@ -66,10 +66,10 @@ done_or due text status had took writes disks doors (disk_failed some is) wrote 
   | inr e ↦ inr (inr e)
 ]
 
-module _ {D : Type 0} (view : D → DiskView) (faults : D → ℕ) (law : CasesAreTheFormats) (one : OneList) (none : NoCause) (telling : Telling D) (before end : D) (has_ended : Type 0)
+module _ {D : Type 0} (view : D → DiskView) (faults : D → ℕ) (law : AcceptedAreTheFormats) (one : OneList) (none : NoCause) (telling : Telling D) (before end : D) (has_ended : Type 0)
     (had took : Option (List ℕ)) (status : Status) (reads : status ≡ ReadFault → ⊥) (writes : status ≡ WriteFault → ⊥) (disks : status ≡ DiskFault → ⊥) (doors : status ≡ DoorFault → ⊥)
     (IsDone : Status → Type 0) (when_done : IsOr Done status → IsDone status) (when_full : status ≡ Full → ((J : List Entry) × telling.full J) → IsDone status) where
-  starved : (store : Bool) (case : Result Spelled CaseStop) → status ≡ NoMemory → IsAnsweredCase IsDone store (view before) case status
+  starved : (store : Bool) (case : Result Spelled AcceptStop) → status ≡ NoMemory → IsAnsweredCase IsDone store (view before) case status
   starved store (Err why) is = inr is
   starved false (Ok case) is = when_done (inr is)
   starved true (Ok case) is = λ told. record { empty = λ _. when_done (inr is); goes_on = λ _ _ _ _. when_done (inr is); refused = λ _ _ _. inr is }
@@ -84,7 +84,7 @@ module _ {D : Type 0} (view : D → DiskView) (faults : D → ℕ) (law : CasesA
       ]
 
   ran : (store : Bool) (bytes : List ℕ) (closed : Closed) → TellsRun view faults telling store before end (Some bytes) has_ended had took status closed
-      → (case : Spelled) → case_in bytes ≡ Ok case → IsAnsweredCase IsDone store (view before) (Ok case) status
+      → (case : Spelled) → case_accepted bytes ≡ Ok case → IsAnsweredCase IsDone store (view before) (Ok case) status
   ran false bytes closed it case is = done_by false bytes closed it
   ran true bytes closed it case is = λ told.
       let same : it.case ≡ case = one_case bytes case it.case is (read_as view faults telling true before end law bytes has_ended had took status closed it) in
@@ -101,11 +101,11 @@ module _ {D : Type 0} (view : D → DiskView) (faults : D → ℕ) (law : CasesA
       not_refused it {cause} refuses some (inr stands) = gone_on_from one none it.case (view before).content cause it.old refuses stands it.few it.possible
 
   -- a tape that is refused
-  tape_refused : (bytes : List ℕ) (case : Spelled) → case_in bytes ≡ Ok case → IsTapeRefused (view before) (view end) (Some bytes) had took status
+  tape_refused : (bytes : List ℕ) (case : Spelled) → case_accepted bytes ≡ Ok case → IsTapeRefused (view before) (view end) (Some bytes) had took status
       → IsAnsweredCase IsDone true (view before) (Ok case) status
   tape_refused bytes case is it = λ told.
       let due = due_or TapeRefused (tape_line it.cause) status had took writes it.line in
-      let same : it.case ≡ case = one_case bytes case it.case is (ap case_in it.read ∙ it.spelled) in
+      let same : it.case ≡ case = one_case bytes case it.case is (ap case_accepted it.read ∙ it.spelled) in
       let was = it.was told in
       let here : RefusesTape case (view before).content it.cause = subst (λ l. RefusesTape case l it.cause) (sym was) (subst (λ c. RefusesTape c it.content it.cause) same it.stands) in
       record {
@@ -115,26 +115,26 @@ module _ {D : Type 0} (view : D → DiskView) (faults : D → ℕ) (law : CasesA
       }
 
   -- no run is told
-  told_none : (store : Bool) (bytes : List ℕ) (result : Result Spelled CaseStop) → case_in bytes ≡ result → TellsNone store (view before) (view end) (Some bytes) had took status
+  told_none : (store : Bool) (bytes : List ℕ) (result : Result Spelled AcceptStop) → case_accepted bytes ≡ result → TellsNone store (view before) (view end) (Some bytes) had took status
       → IsAnsweredCase IsDone store (view before) result status
   told_none store bytes result is (is_silent silent) = elim silent.0 [
     | inl e ↦ absurd (reads e)
     | inr e ↦ starved store result e
   ]
   told_none store bytes (Err why) is (is_refused it) = due_or Refused (refusal_line it.why) status had took writes it.line
-  told_none store bytes (Ok case) is (is_refused it) = absurd (let wrong = sym is ∙ (ap case_in it.read ∙ it.refuses) in cc)
+  told_none store bytes (Ok case) is (is_refused it) = absurd (let wrong = sym is ∙ (ap case_accepted it.read ∙ it.refuses) in cc)
   told_none store bytes result is (has_failed on fault nothing) = absurd (disks fault)
-  told_none store bytes (Err why) is (is_tape_refused on it) = absurd (let wrong = sym is ∙ (ap case_in it.read ∙ it.spelled) in cc)
+  told_none store bytes (Err why) is (is_tape_refused on it) = absurd (let wrong = sym is ∙ (ap case_accepted it.read ∙ it.spelled) in cc)
   told_none store bytes (Ok case) is (is_tape_refused on it) = subst (λ s. IsAnsweredCase IsDone s (view before) (Ok case) status) (sym on) (tape_refused bytes case is it)
 
   told_some : (store : Bool) (bytes : List ℕ) (closed : Closed) → TellsRun view faults telling store before end (Some bytes) has_ended had took status closed
-      → IsAnsweredCase IsDone store (view before) (case_in bytes) status
+      → IsAnsweredCase IsDone store (view before) (case_accepted bytes) status
   told_some store bytes closed it =
       let is = read_as view faults telling store before end law bytes has_ended had took status closed it in
       subst (λ c. IsAnsweredCase IsDone store (view before) c status) (sym is) (ran store bytes closed it it.case is)
 
   pub answered_case : (store : Bool) (left : Option (List ℕ)) (told_run : Option Closed) → AnswersCase view faults telling store before end left has_ended had took status told_run
-      → IfSome left (λ bytes. IsAnsweredCase IsDone store (view before) (case_in bytes) status)
+      → IfSome left (λ bytes. IsAnsweredCase IsDone store (view before) (case_accepted bytes) status)
   answered_case store None told_run it = tt
   answered_case store (Some bytes) (Some closed) it = told_some store bytes closed it
-  answered_case store (Some bytes) None it = told_none store bytes (case_in bytes) refl it
+  answered_case store (Some bytes) None it = told_none store bytes (case_accepted bytes) refl it

@@ -20,6 +20,7 @@ use Rattle.dcr_tape.specs.declared.tape.Store.{Store}
 use Rattle.dcr_cluster.specs.Calls.{Shows}
 use Rattle.dcr_cluster.specs.declared.halt.Halt.{Halt}
 use Rattle.dcr_cluster.specs.declared.halt.Halt.TheVariants.{Full, Stopped}
+use Rattle.dcr_link.specs.Replies.{Terms}
 use Rattle.dcr_link.specs.declared.end.WorkCause.{WorkCause}
 use Rattle.dcr_link.specs.declared.end.WorkCause.TheVariants as cause
 use Rattle.dcr_serving.specs.Serving.{DoorEnds}
@@ -59,8 +60,8 @@ pub is_false : (b : Bool) → (IsTrue b → ⊥) → b ≡ false
 is_false true never = absurd (never refl)
 is_false false never = refl
 
-module _ {D B L R : Type 0} (doors : Doors B L R) (first : Store D) (sites atoms : List (List ℕ)) (before after : B) (sessions : ℕ) (ends : List (LinkEnd L R)) (J : List Entry)
-    (served : ServedIn doors.tells first sites atoms (doors.links before) sessions ends J) where
+module _ {D B L R : Type 0} (doors : Doors B L R) (first : Store D) (terms : Terms) (before after : B) (sessions : ℕ) (ends : List (LinkEnd L R)) (J : List Entry)
+    (served : ServedIn doors.tells first terms (doors.links before) sessions ends J) where
   of_link : (k : ℕ) (end : LinkEnd L R) → slice_get ends k ≡ Some end → HasNoFault J → (length J ≡ most_served → ⊥) → end.end.cause ≢ cause.NoMemory → (why : WorkCause) → end.end.cause ≡ why
       → IsOfLink why
   of_link k end there none room had cause.Ended is = tt

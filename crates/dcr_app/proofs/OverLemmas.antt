@@ -23,17 +23,18 @@ use Rattle.dcr_cell.specs.Stored.{StoreStands, TapeStands}
 use Rattle.dcr_cluster.specs.Opening.{Leaves, IsCause, IsFirstBad}
 use Rattle.dcr_cluster.specs.declared.refused.OpenCause.{OpenCause}
 use Rattle.dcr_cluster.specs.declared.refused.OpenCause.TheVariants as opening
-use Rattle.dcr_json.specs.Case.{case_in}
 use Rattle.dcr_json.specs.Judged.{Spelled}
-use Rattle.dcr_json.specs.Refusals.{CasesAreTheFormats}
 use Rattle.dcr_report.specs.Report.{report_text}
+use Rattle.dcr_policy.specs.Roles.{Roles}
+use Rattle.dcr_roles.specs.Accepted.{accepted_in, case_accepted}
+use Rattle.dcr_roles.specs.Laws.{AcceptedAreTheFormats}
 use Rattle.dcr_app.specs.Answers.{AnswersCase, TellsNone, is_silent, has_failed, is_tape_refused}
 use Rattle.dcr_app.specs.Headline.{cluster_in, digest_of}
 use Rattle.dcr_app.specs.Outside.{IsSilent, Wrote}
 use Rattle.dcr_app.specs.Stored.{EndsFor, EndsOver, HasKept, RanOver, StandsStill, by_bytes, by_execution, disk_in, tape_cause, tape_line}
 use Rattle.dcr_app.specs.Telling.{IsDueBy, Telling, all_done, disk_failed, door_failed, is_full}
 use Rattle.dcr_app.proofs.OutsideLemmas.{wrote_at}
-use Rattle.dcr_app.proofs.RunLemmas.{tells_run}
+use Rattle.dcr_app.proofs.RunLemmas.{case_of_both, tells_run}
 use Rattle.dcr_app.proofs.TapeLemmas.{either_way, has_kept, none_made, still_opened, still_refused, still_then, stood, stood_for}
 
 -- ---- statuses
@@ -76,14 +77,14 @@ pub off_stands : {D : Type 0} (view : D → DiskView) (faults : D → ℕ) (befo
 off_stands view faults before J (Off disk) stands = stands
 off_stands view faults before J (On tape) stands = elim stands [ ]
 
-module _ {D : Type 0} (view : D → DiskView) (faults : D → ℕ) (telling : Telling D) (case : Spelled) (before end : D) (had took : Option (List ℕ)) (status : Status) where
+module _ {D : Type 0} (view : D → DiskView) (faults : D → ℕ) (telling : Telling D) (case : Spelled) (policy : Roles) (before end : D) (had took : Option (List ℕ)) (status : Status) where
   off_left : (why : OpenCause) (last : Store D) → Leaves view faults [] why (Off before) last → disk_in last ≡ before
   off_left opening.NoMemory last leaves = ap disk_in leaves
   off_left (opening.BadTape at) last leaves = ap disk_in leaves
   off_left opening.DiskFault last leaves = elim leaves [ ]
 
   -- the disk is as it was
-  pub off_same : (told_run : Option Closed) → EndsOver view faults telling case [] (Off before) end had took status told_run → end ≡ before
+  pub off_same : (told_run : Option Closed) → EndsOver view faults telling case policy [] (Off before) end had took status told_run → end ≡ before
   off_same (Some closed) it = it.same ∙ (off_stands view faults before closed.history.entries it.last it.whole.stored).0
   off_same None it = it.same ∙ off_left it.cause it.last it.refused.leaves
 
@@ -93,16 +94,16 @@ module _ {D : Type 0} (view : D → DiskView) (faults : D → ℕ) (telling : Te
   off_refused (opening.BadTape at) last stands leaves ends = absurd (let there = stands.there in cc)
   off_refused opening.DiskFault last stands leaves ends = elim leaves [ ]
 
-  pub off_answers : CasesAreTheFormats → (bytes : List ℕ) → case_in bytes ≡ Ok case → (told_run : Option Closed)
-      → EndsOver view faults telling case [] (Off before) end had took status told_run
+  pub off_answers : AcceptedAreTheFormats → (bytes : List ℕ) → accepted_in bytes ≡ Ok (record { case = case; policy = policy }) → (told_run : Option Closed)
+      → EndsOver view faults telling case policy [] (Off before) end had took status told_run
       → AnswersCase view faults telling false before end (Some bytes) ⊤ had took status told_run
   off_answers law bytes spelled (Some closed) it =
-      tells_run view faults law telling false before end bytes case [] (Off before) had took status closed spelled (omega arith) refl it (off_same (Some closed) it)
+      tells_run view faults law telling false before end bytes case policy [] (Off before) had took status closed spelled (omega arith) refl it (off_same (Some closed) it)
       (λ off. (off_stands view faults before closed.history.entries it.last it.whole.stored).1) (λ taped. elim taped [ ])
   off_answers law bytes spelled None it = is_silent (off_refused it.cause it.last it.refused.stands it.refused.leaves it.ends)
 
   -- it is never told as failed
-  pub off_unfailed : (told_run : Option Closed) → EndsOver view faults telling case [] (Off before) end had took status told_run → status ≡ DiskFault → ⊥
+  pub off_unfailed : (told_run : Option Closed) → EndsOver view faults telling case policy [] (Off before) end had took status told_run → status ≡ DiskFault → ⊥
   off_unfailed (Some closed) it is =
       fault_told it.report.0 (report_text case.nested case.cover closed.opening closed.history.entries) status had took it.report.1 it.report.2 is
       (off_stands view faults before closed.history.entries it.last it.whole.stored).1
@@ -116,14 +117,14 @@ on_stands : {D : Type 0} (view : D → DiskView) (faults : D → ℕ) (tape : Ta
 on_stands view faults tape old J (Off disk) stands = elim stands [ ]
 on_stands view faults tape old J (On now) stands = (now, refl, stands)
 
-module _ {D : Type 0} (view : D → DiskView) (faults : D → ℕ) (telling : Telling D) (case : Spelled) (one : OneList) (before : D) (tape : Tape D) (old : List TapeEntry)
+module _ {D : Type 0} (view : D → DiskView) (faults : D → ℕ) (telling : Telling D) (case : Spelled) (policy : Roles) (one : OneList) (before : D) (tape : Tape D) (old : List TapeEntry)
     (long : length (digest_of case) ≡ 32) (opened : Opened (view before) (view tape.disk) (digest_of case) (part_of tape) old) (same_faults : faults tape.disk ≡ faults before)
     (end : D) (had took : Option (List ℕ)) (status : Status) where
   abbrev digest : List ℕ
   digest = digest_of case
 
   -- what is left after a run
-  kept_by : (closed : Closed) → (it : RanOver view faults telling case old (On tape) end had took status closed) → HasKept view faults digest old closed.history.entries before end
+  kept_by : (closed : Closed) → (it : RanOver view faults telling case policy old (On tape) end had took status closed) → HasKept view faults digest old closed.history.entries before end
   kept_by closed it =
       let J = closed.history.entries in
       let stands = on_stands view faults tape old J it.last it.whole.stored in
@@ -136,7 +137,7 @@ module _ {D : Type 0} (view : D → DiskView) (faults : D → ℕ) (telling : Te
       let there : slice_get [] at ≡ Some bad.execution = subst (λ (l : List TapeEntry). slice_get l at ≡ Some bad.execution) none bad.there in cc
 
   -- no call was made
-  on_refused : (bytes : List ℕ) → case_in bytes ≡ Ok case → (why : OpenCause) (last : Store D) → end ≡ disk_in last → IsCause (cluster_in case old) why
+  on_refused : (bytes : List ℕ) → case_accepted bytes ≡ Ok case → (why : OpenCause) (last : Store D) → end ≡ disk_in last → IsCause (cluster_in case old) why
       → Leaves view faults old why (On tape) last → EndsFor (tape_cause why) status had took → TellsNone true (view before) (view end) (Some bytes) had took status
   on_refused bytes spelled opening.NoMemory last same stands leaves ends = is_silent ends
   on_refused bytes spelled opening.DiskFault last same stands leaves ends = has_failed refl ends.0 ends.1
@@ -162,13 +163,13 @@ module _ {D : Type 0} (view : D → DiskView) (faults : D → ℕ) (telling : Te
           let is : end ≡ tape.disk = same ∙ ap disk_in leaves in
           subst (λ d. IsTrue (view d).told × ((view d).content ≡ opened.before)) (sym is) (opened.told, opened.kept some)
 
-  pub on_answers : CasesAreTheFormats → (bytes : List ℕ) → case_in bytes ≡ Ok case → (told_run : Option Closed)
-      → EndsOver view faults telling case old (On tape) end had took status told_run
+  pub on_answers : AcceptedAreTheFormats → (bytes : List ℕ) → accepted_in bytes ≡ Ok (record { case = case; policy = policy }) → (told_run : Option Closed)
+      → EndsOver view faults telling case policy old (On tape) end had took status told_run
       → AnswersCase view faults telling true before end (Some bytes) ⊤ had took status told_run
   on_answers law bytes spelled (Some closed) it =
-      tells_run view faults law telling true before end bytes case old (On tape) had took status closed spelled opened.few
+      tells_run view faults law telling true before end bytes case policy old (On tape) had took status closed spelled opened.few
       (stood_for view faults one before tape digest old long opened) it (kept_by closed it) (λ e. absurd cc) (λ taped. refl)
-  on_answers law bytes spelled None it = on_refused bytes spelled it.cause it.last it.same it.refused.stands it.refused.leaves it.ends
+  on_answers law bytes spelled None it = on_refused bytes (case_of_both bytes (record { case = case; policy = policy }) spelled) it.cause it.last it.same it.refused.stands it.refused.leaves it.ends
 
   still_for : (why : OpenCause) (last : Store D) → Leaves view faults old why (On tape) last → StandsStill view before (disk_in last)
   still_for opening.NoMemory (On now) leaves = still_then view faults one before tape digest old long opened now.disk leaves.0
@@ -177,7 +178,7 @@ module _ {D : Type 0} (view : D → DiskView) (faults : D → ℕ) (telling : Te
   still_for opening.DiskFault (Off disk) leaves = elim leaves [ ]
   still_for (opening.BadTape at) last leaves = subst (λ s. StandsStill view before (disk_in s)) (sym leaves) (still_opened view faults one before tape digest old long opened)
 
-  pub on_still : (told_run : Option Closed) → EndsOver view faults telling case old (On tape) end had took status told_run → told_run ≡ None → StandsStill view before end
+  pub on_still : (told_run : Option Closed) → EndsOver view faults telling case policy old (On tape) end had took status told_run → told_run ≡ None → StandsStill view before end
   on_still (Some closed) it none = absurd cc
   on_still None it none = subst (λ d. StandsStill view before d) (sym it.same) (still_for it.cause it.last it.refused.leaves)
 
@@ -188,7 +189,7 @@ module _ {D : Type 0} (view : D → DiskView) (faults : D → ℕ) (telling : Te
   failed_open opening.NoMemory last leaves is = absurd cc
   failed_open (opening.BadTape at) last leaves is = absurd cc
 
-  pub on_counted : (told_run : Option Closed) → EndsOver view faults telling case old (On tape) end had took status told_run → status ≡ DiskFault → Rose (faults before) (faults end)
+  pub on_counted : (told_run : Option Closed) → EndsOver view faults telling case policy old (On tape) end had took status told_run → status ≡ DiskFault → Rose (faults before) (faults end)
   on_counted (Some closed) it is =
       ((kept_by closed it).failed
       (fault_told it.report.0 (report_text case.nested case.cover closed.opening closed.history.entries) status had took it.report.1 it.report.2 is)).1
@@ -206,7 +207,7 @@ module _ {D : Type 0} (view : D → DiskView) (faults : D → ℕ) (telling : Te
   no_fewer_ran J (inl none) kept = let same = kept.no_fault none in omega (arith, same)
   no_fewer_ran J (inr some) kept = (kept.failed some).0
 
-  pub on_no_fewer : (told_run : Option Closed) → EndsOver view faults telling case old (On tape) end had took status told_run → faults before ≤ faults end
+  pub on_no_fewer : (told_run : Option Closed) → EndsOver view faults telling case policy old (On tape) end had took status told_run → faults before ≤ faults end
   on_no_fewer (Some closed) it = no_fewer_ran closed.history.entries (either_way it.report.0 it.report.1) (kept_by closed it)
   on_no_fewer None it = subst (λ d. faults before ≤ faults d) (sym it.same) (no_fewer_open it.cause it.last it.refused.leaves)
 
@@ -215,7 +216,7 @@ module _ {D : Type 0} (view : D → DiskView) (faults : D → ℕ) (telling : Te
 module _ {D : Type 0} (view : D → DiskView) (faults : D → ℕ) (telling : Telling D) (case : Spelled) (before end : D) (why : TapeCause)
     (refused : NotOpened (view before) (view end) (digest_of case) why) (counts : CountsFaultOf why (faults before) (faults end)) (had took : Option (List ℕ)) (status : Status)
     (ends : EndsFor why status had took) where
-  shown_line : (bytes : List ℕ) → case_in bytes ≡ Ok case → (cause : TapeCause) → cause ≡ why → IsShown cause
+  shown_line : (bytes : List ℕ) → case_accepted bytes ≡ Ok case → (cause : TapeCause) → cause ≡ why → IsShown cause
       → IsSilent status had took ⊎ Wrote TapeRefused (tape_line cause) status had took → TellsNone true (view before) (view end) (Some bytes) had took status
   shown_line bytes spelled cause same shown (inl silent) = is_silent silent
   shown_line bytes spelled cause same shown (inr wrote) =
@@ -234,7 +235,7 @@ module _ {D : Type 0} (view : D → DiskView) (faults : D → ℕ) (telling : Te
         line = subst (λ c. Wrote TapeRefused (tape_line c) status had took) same wrote;
       })
 
-  tells_none : (bytes : List ℕ) → case_in bytes ≡ Ok case → (cause : TapeCause) → cause ≡ why → EndsFor cause status had took
+  tells_none : (bytes : List ℕ) → case_accepted bytes ≡ Ok case → (cause : TapeCause) → cause ≡ why → EndsFor cause status had took
       → TellsNone true (view before) (view end) (Some bytes) had took status
   tells_none bytes spelled cause.DiskFault same ends' = has_failed refl ends'.0 ends'.1
   tells_none bytes spelled cause.NoMemory same ends' = is_silent ends'
@@ -243,7 +244,7 @@ module _ {D : Type 0} (view : D → DiskView) (faults : D → ℕ) (telling : Te
   tells_none bytes spelled (cause.BadTape at) same ends' = shown_line bytes spelled (cause.BadTape at) same tt ends'
   tells_none bytes spelled cause.Long same ends' = shown_line bytes spelled cause.Long same tt ends'
 
-  pub unopened_answers : (bytes : List ℕ) → case_in bytes ≡ Ok case → (told_run : Option Closed) → told_run ≡ None
+  pub unopened_answers : (bytes : List ℕ) → case_accepted bytes ≡ Ok case → (told_run : Option Closed) → told_run ≡ None
       → AnswersCase view faults telling true before end (Some bytes) ⊤ had took status told_run
   unopened_answers bytes spelled told_run none =
       subst (λ t. AnswersCase view faults telling true before end (Some bytes) ⊤ had took status t) (sym none) (tells_none bytes spelled why refl ends)

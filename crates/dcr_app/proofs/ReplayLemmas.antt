@@ -12,7 +12,7 @@ use Rattle.dcr_replay.specs.declared.verdict.Verdict.{Verdict}
 use Rattle.dcr_replay.specs.declared.verdict.Verdict.TheVariants as verdict
 use Rattle.dcr_app.specs.Answers.{AnswersReport, Finds, IsAnsweredReport, SaysInvalid, SaysValid, WroteFound, verdict_line, verdict_status}
 use Rattle.dcr_app.specs.Outside.{IsDue, IsSilent, WereLeft, Wrote}
-use Rattle.dcr_app.specs.Refusal.{refusal_line}
+use Rattle.dcr_app.specs.Refusal.{case_line}
 use Rattle.dcr_app.proofs.OutsideLemmas.{ends_as, longer_than, were_left}
 
 -- the line of a verdict is due
@@ -34,12 +34,12 @@ said bytes v had took status short is due text due_is read line wrote =
     (subst (λ t. Wrote (verdict_status v) t status had took) (read ∙ line) (subst (λ d. Wrote d text status had took) due_is wrote))
 
 too_much_of : (left : Option (List ℕ)) (bytes : List ℕ) (had took : Option (List ℕ)) (status : Status) → WereLeft left bytes → 268435456 < length bytes
-    → IsSilent status had took ⊎ Wrote Refused (refusal_line TooLong) status had took → AnswersReport left had took status
+    → IsSilent status had took ⊎ Wrote Refused (case_line TooLong) status had took → AnswersReport left had took status
 too_much_of left bytes had took status read more (inl silent) = inl silent
 too_much_of left bytes had took status read more (inr wrote) = inr (record { bytes = bytes; read = read; found = None; finds = more; line = wrote })
 
 pub too_much : (left had took : Option (List ℕ)) (status : Status) → IfSome left (λ bytes. 268435456 < length bytes)
-    → IsSilent status had took ⊎ Wrote Refused (refusal_line TooLong) status had took → AnswersReport left had took status
+    → IsSilent status had took ⊎ Wrote Refused (case_line TooLong) status had took → AnswersReport left had took status
 too_much None had took status more line = let it = longer_than 268435456 in too_much_of None it.0 had took status tt it.1 line
 too_much (Some bytes) had took status more line = too_much_of (Some bytes) bytes had took status refl more line
 
@@ -110,14 +110,14 @@ says_invalid left had took status law one first is answer =
     let t = told_at left had took status Invalid is (λ e. absurd cc) (λ e. absurd cc) answer in invalid_by left had took t.bytes t.found law one first t.read t.finds t.line
 
 refused_by_length : (left had took : Option (List ℕ)) (bytes : List ℕ) (found : Option Verdict) → WereLeft left bytes → Finds bytes found → WroteFound found Refused had took
-    → IfSome left (λ it. 268435456 < length it) × Appends had took (refusal_line TooLong)
+    → IfSome left (λ it. 268435456 < length it) × Appends had took (case_line TooLong)
 refused_by_length left had took bytes None read finds line = (of_left (λ it. 268435456 < length it) left bytes read finds, line.1)
 refused_by_length left had took bytes (Some (verdict.Valid count)) read finds line = let wrong : Refused ≡ Done = line.0 in absurd cc
 refused_by_length left had took bytes (Some (verdict.Invalid number kind)) read finds line = let wrong : Refused ≡ Invalid = line.0 in absurd cc
 
 -- with Refused the report has too many bytes
 pub refuses_report : (left had took : Option (List ℕ)) (status : Status) → status ≡ Refused → AnswersReport left had took status
-    → IfSome left (λ it. 268435456 < length it) × Appends had took (refusal_line TooLong)
+    → IfSome left (λ it. 268435456 < length it) × Appends had took (case_line TooLong)
 refuses_report left had took status is answer =
     let t = told_at left had took status Refused is (λ e. absurd cc) (λ e. absurd cc) answer in refused_by_length left had took t.bytes t.found t.read t.finds t.line
 
@@ -126,7 +126,7 @@ refuses_report left had took status is answer =
 found_answer : (bytes : List ℕ) (found : Option Verdict) (status : Status) (had took : Option (List ℕ)) → VerdictIsOne → Finds bytes found → (status ≡ WriteFault → ⊥)
     → WroteFound found status had took → IsAnsweredReport bytes status
 found_answer bytes None status had took one finds writes line = (
-  λ more. elim (ends_as Refused (refusal_line TooLong) status had took line) [
+  λ more. elim (ends_as Refused (case_line TooLong) status had took line) [
     | inl e ↦ inl e
     | inr other ↦ elim other [
       | inl e ↦ absurd (writes e)

@@ -1,6 +1,6 @@
 -- What `run` answers.
 use Rattle.std.proofs.Common.{◌≡◌, ◌≢◌, ◌⊎◌, ℕ, ◌<◌, ◌≤◌, arith, Bool, true, false, List, length, Option, Some, None, Result, Ok, Err, IfSome, inl, inr, refl, sym, ap, subst, ◌∙◌, cond}
-use Rattle.std.specs.Prelude.{⊤, slice_get}
+use Rattle.std.specs.Prelude.{◌↔◌, ⊤, slice_get}
 use Rattle.std.specs.List.{All}
 use Rattle.std.proofs.lemmas.Bool.{lt-leb}
 use Rattle.std.proofs.lemmas.Option.{slice_get_within, get_or_from_slice_get}
@@ -27,18 +27,46 @@ use Rattle.dcr_reading.specs.Accepted.{IsAcceptedGraph, IsAcceptedCover}
 use Rattle.dcr_replay.specs.Laws.{IsReport}
 use Rattle.dcr_report.specs.Report.{report_text}
 use Rattle.dcr_shape.specs.Stages.{◌>>=◌}
-use Rattle.dcr_json.specs.Case.{case_in}
+use Rattle.dcr_json.specs.Case.{file_in}
 use Rattle.dcr_json.specs.Judged.{Spelled}
-use Rattle.dcr_json.specs.Refusals.{CasesAreTheFormats, SpellsCase}
 use Rattle.dcr_json.specs.declared.case.CaseStop.{CaseStop}
 use Rattle.dcr_json.specs.declared.case.CaseStop.TheVariants as stop
+use Rattle.serde_json.specs.Data.{Data}
+use Rattle.dcr_policy.specs.Roles.{Roles}
+use Rattle.dcr_roles.specs.Accepted.{HadMemory, SpelledBoth, WantedMemory, accepted_in, case_accepted, of_case}
+use Rattle.dcr_roles.specs.Laws.{AcceptedAreTheFormats, AcceptsCase, SpellsBoth}
+use Rattle.dcr_roles.specs.declared.accepted.AcceptStop.{AcceptStop}
+use Rattle.dcr_roles.specs.declared.accepted.AcceptStop.TheVariants as accept
+use Rattle.dcr_roles.specs.declared.stop.PolicyStop.{PolicyStop}
+use Rattle.dcr_roles.specs.declared.stop.PolicyStop.TheVariants as policy_stop
 use Rattle.dcr_app.specs.Answers.{AnswersCase, IsDoneThroughout, IsToldByOne, TellsRun, WroteReport, is_silent, is_refused, has_failed, is_tape_refused}
 use Rattle.dcr_app.specs.Headline.{BeginsWith, Headline, digest_of, rules_in}
 use Rattle.dcr_app.specs.Outside.{IsSilent, WereLeft, Wrote}
-use Rattle.dcr_app.specs.Refusal.{refusal_line}
+use Rattle.dcr_app.specs.Refusal.{case_line, refusal_line}
 use Rattle.dcr_app.specs.Stored.{Keeps, RanOver}
 use Rattle.dcr_app.specs.Telling.{IsDueBy, Telling, all_done, by_workers, disk_failed, door_failed, is_full}
 use Rattle.dcr_app.proofs.OutsideLemmas.{longer_than, were_left, wrote_at}
+
+-- ---- what is accepted
+
+-- the case that is accepted is that of both
+pub case_of_both : (bytes : List ℕ) (both : SpelledBoth) → accepted_in bytes ≡ Ok both → case_accepted bytes ≡ Ok both.case
+case_of_both bytes both is = ap (λ r. r >>= λ it. Ok it.case) is
+
+pub case_of_stop : (bytes : List ℕ) (why : AcceptStop) → accepted_in bytes ≡ Err why → case_accepted bytes ≡ Err why
+case_of_stop bytes why is = ap (λ r. r >>= λ it. Ok it.case) is
+
+abbrev pub CasesAreAccepted : Type 0
+CasesAreAccepted = (bytes : List ℕ) (case : Spelled) → (case_accepted bytes ≡ Ok case) ↔ AcceptsCase bytes case
+
+pub cases_are_accepted : AcceptedAreTheFormats → CasesAreAccepted
+cases_are_accepted law bytes case = (λ is. accepted_at (accepted_in bytes) refl is, λ it. case_of_both bytes (record { case = case; policy = it.policy }) ((law bytes (record { case = case; policy = it.policy })).1 it.spells))
+  where
+    accepted_at : (r : Result SpelledBoth AcceptStop) → accepted_in bytes ≡ r → (r >>= λ it. Ok it.case) ≡ Ok case → AcceptsCase bytes case
+    accepted_at (Ok both) is same =
+        let here : both.case ≡ case = cc in
+        record { policy = both.policy; spells = (law bytes (record { case = case; policy = both.policy })).0 (is ∙ ap (λ (c : Spelled). Ok (record { case = c; policy = both.policy })) here) }
+    accepted_at (Err why) is same = absurd cc
 
 -- ---- a run of the case
 
@@ -51,23 +79,24 @@ no_fault_done due text status had took (is_full none full is) wrote done = absur
 no_fault_done due text status had took (door_failed none room failed is) wrote done = absurd (let wrong = (wrote_at due text status Done had took done tt wrote).0 ∙ is in cc)
 
 -- the headline of the run of a case that these bytes spell
-pub tells_run : {D : Type 0} (view : D → DiskView) (faults : D → ℕ) → CasesAreTheFormats → (telling : Telling D) (store : Bool) (before after_it : D) (bytes : List ℕ) (case : Spelled)
-    (old : List TapeEntry) (first : Store D) (had took : Option (List ℕ)) (status : Status) (closed : Closed) → case_in bytes ≡ Ok case → length old ≤ most_records
-    → BeginsWith store (digest_of case) (view before) old → RanOver view faults telling case old first after_it had took status closed
+pub tells_run : {D : Type 0} (view : D → DiskView) (faults : D → ℕ) → AcceptedAreTheFormats → (telling : Telling D) (store : Bool) (before after_it : D) (bytes : List ℕ) (case : Spelled) (policy : Roles)
+    (old : List TapeEntry) (first : Store D) (had took : Option (List ℕ)) (status : Status) (closed : Closed) → accepted_in bytes ≡ Ok (record { case = case; policy = policy }) → length old ≤ most_records
+    → BeginsWith store (digest_of case) (view before) old → RanOver view faults telling case policy old first after_it had took status closed
     → Keeps store view faults (digest_of case) old closed.history.entries before after_it → (store ≡ false → HasNoFault closed.history.entries) → (IsTaped (Some first) → store ≡ true)
     → TellsRun view faults telling store before after_it (Some bytes) ⊤ had took status closed
-tells_run view faults law telling store before after_it bytes case old first had took status closed spelled few begins over keeps unstored taped =
+tells_run view faults law telling store before after_it bytes case policy old first had took status closed spelled few begins over keeps unstored taped =
     let G = rules_in case in let C = case.cover.owned in let J = closed.history.entries in
     let whole = over.whole in
     let Legal : Marking → Type 0 = λ M. IsLegal G C M J in record {
       case = case;
+      policy = policy;
       old = old;
       few = few;
       possible = over.possible;
       first = first;
       taped = taped;
       headline = record {
-        input = (bytes, refl, (law bytes case).0 spelled, tt);
+        input = (bytes, refl, (law bytes (record { case = case; policy = policy })).0 spelled, tt);
         history = (begins, whole.opening, subst Legal (sym whole.opening) whole.legal, no_fault);
         sessions = over.sessions;
         order = over.order;
@@ -117,26 +146,42 @@ wrote_report case closed due status had took wrote is_report done =
 stops : {A B : Type 0} (o : Result A CaseStop) (f : A → Result B CaseStop) (why : CaseStop) → o ≡ Err why → (o >>= f) ≡ Err why
 stops o f why is = ap (λ r. r >>= f) is
 
-pub too_long : (bytes : List ℕ) → 16777216 < length bytes → case_in bytes ≡ Err stop.TooLong
-unfolding case_in
-too_long bytes more = stops _ _ stop.TooLong (ap (λ t. cond t (Ok bytes) (Err stop.TooLong)) (lt-leb (length bytes) 16777216 more))
+long_file : (bytes : List ℕ) → 16777216 < length bytes → file_in bytes ≡ Err stop.TooLong
+unfolding file_in
+long_file bytes more = stops _ _ stop.TooLong (ap (λ t. cond t (Ok bytes) (Err stop.TooLong)) (lt-leb (length bytes) 16777216 more))
+
+stops_both : {B : Type 0} (o : Result Data CaseStop) (f : Data → Result B AcceptStop) (why : CaseStop) → o ≡ Err why → (of_case o >>= f) ≡ Err (accept.Case why)
+stops_both o f why is = ap (λ r. of_case r >>= f) is
+
+pub too_long : (bytes : List ℕ) → 16777216 < length bytes → case_accepted bytes ≡ Err (accept.Case stop.TooLong)
+unfolding accepted_in
+too_long bytes more = case_of_stop bytes (accept.Case stop.TooLong) (stops_both (file_in bytes) _ stop.TooLong (long_file bytes more))
 
 -- whether a refusal is want of memory
-pub is_memory : (why : CaseStop) → (why ≡ stop.NoMemory) ⊎ (why ≢ stop.NoMemory)
-is_memory stop.NoMemory = inl refl
-is_memory stop.TooLong = inr (λ e. cc)
-is_memory stop.NotJson = inr (λ e. cc)
-is_memory (stop.Shape part index) = inr (λ e. cc)
-is_memory (stop.Limit kind count) = inr (λ e. cc)
-is_memory (stop.EventName i) = inr (λ e. cc)
-is_memory (stop.Parent i) = inr (λ e. cc)
-is_memory (stop.MarkOnNest i) = inr (λ e. cc)
-is_memory (stop.RelationEnd i) = inr (λ e. cc)
-is_memory (stop.Clash a b) = inr (λ e. cc)
-is_memory (stop.SiteName i) = inr (λ e. cc)
-is_memory (stop.Owned i j) = inr (λ e. cc)
-is_memory (stop.Uncovered a) = inr (λ e. cc)
-is_memory (stop.CallLine k j) = inr (λ e. cc)
+case_memory : (why : CaseStop) → (why ≡ stop.NoMemory) ⊎ (why ≢ stop.NoMemory)
+case_memory stop.NoMemory = inl refl
+case_memory stop.TooLong = inr (λ e. cc)
+case_memory stop.NotJson = inr (λ e. cc)
+case_memory (stop.Shape part index) = inr (λ e. cc)
+case_memory (stop.Limit kind count) = inr (λ e. cc)
+case_memory (stop.EventName i) = inr (λ e. cc)
+case_memory (stop.Parent i) = inr (λ e. cc)
+case_memory (stop.MarkOnNest i) = inr (λ e. cc)
+case_memory (stop.RelationEnd i) = inr (λ e. cc)
+case_memory (stop.Clash a b) = inr (λ e. cc)
+case_memory (stop.SiteName i) = inr (λ e. cc)
+case_memory (stop.Owned i j) = inr (λ e. cc)
+case_memory (stop.Uncovered a) = inr (λ e. cc)
+case_memory (stop.CallLine k j) = inr (λ e. cc)
+
+policy_memory : (why : PolicyStop) → (why ≡ policy_stop.NoMemory) ⊎ (why ≢ policy_stop.NoMemory)
+policy_memory policy_stop.NoMemory = inl refl
+policy_memory (policy_stop.Policy part index) = inr (λ e. cc)
+policy_memory (policy_stop.Denied k j role) = inr (λ e. cc)
+
+pub is_memory : (why : AcceptStop) → WantedMemory why ⊎ HadMemory why
+is_memory (accept.Case why) = case_memory why
+is_memory (accept.Policy why) = policy_memory why
 
 -- ---- from the bytes to what the input had left
 
@@ -149,7 +194,7 @@ module _ {D : Type 0} (view : D → DiskView) (faults : D → ℕ) (telling : Te
     bytes = bytes;
     read = were_left left bytes same;
     why = it.why;
-    refuses = ap case_in it.read ∙ it.refuses;
+    refuses = ap case_accepted it.read ∙ it.refuses;
     named = it.named;
     line = it.line;
   })
@@ -158,7 +203,7 @@ module _ {D : Type 0} (view : D → DiskView) (faults : D → ℕ) (telling : Te
     bytes = bytes;
     read = were_left left bytes same;
     case = it.case;
-    spelled = ap case_in it.read ∙ it.spelled;
+    spelled = ap case_accepted it.read ∙ it.spelled;
     content = it.content;
     was = it.was;
     stays = it.stays;
@@ -169,13 +214,14 @@ module _ {D : Type 0} (view : D → DiskView) (faults : D → ℕ) (telling : Te
   })
   answers_from left has_ended bytes had took status (Some closed) same ended it = record {
     case = it.case;
+    policy = it.policy;
     old = it.old;
     few = it.few;
     possible = it.possible;
     first = it.first;
     taped = it.taped;
     headline = record {
-      input = (bytes, were_left left bytes same, subst (λ b. SpellsCase b it.case) (sym it.headline.input.1) it.headline.input.2, ended);
+      input = (bytes, were_left left bytes same, subst (λ b. SpellsBoth b (record { case = it.case; policy = it.policy })) (sym it.headline.input.1) it.headline.input.2, ended);
       history = it.headline.history;
       sessions = it.headline.sessions;
       order = it.headline.order;
@@ -186,15 +232,17 @@ module _ {D : Type 0} (view : D → DiskView) (faults : D → ℕ) (telling : Te
   }
 
   -- the case is the one that the bytes are read as
-  pub read_as : CasesAreTheFormats → (bytes : List ℕ) (has_ended : Type 0) (had took : Option (List ℕ)) (status : Status) (closed : Closed)
-      → (it : TellsRun view faults telling store before end (Some bytes) has_ended had took status closed) → case_in bytes ≡ Ok it.case
-  read_as law bytes has_ended had took status closed it = ap case_in it.headline.input.1 ∙ (law it.headline.input.0 it.case).1 it.headline.input.2
+  pub read_as : AcceptedAreTheFormats → (bytes : List ℕ) (has_ended : Type 0) (had took : Option (List ℕ)) (status : Status) (closed : Closed)
+      → (it : TellsRun view faults telling store before end (Some bytes) has_ended had took status closed) → case_accepted bytes ≡ Ok it.case
+  read_as law bytes has_ended had took status closed it =
+      ap case_accepted it.headline.input.1
+      ∙ case_of_both it.headline.input.0 (record { case = it.case; policy = it.policy }) ((law it.headline.input.0 (record { case = it.case; policy = it.policy })).1 it.headline.input.2)
 
   -- ---- a refusal
 
   -- bytes that are refused, by the line of their refusal
-  pub refused_by : (left : Option (List ℕ)) (has_ended : Type 0) (bytes : List ℕ) (why : CaseStop) (had took : Option (List ℕ)) (status : Status) (told_run : Option Closed)
-      → told_run ≡ None → WereLeft left bytes → case_in bytes ≡ Err why → why ≢ stop.NoMemory
+  pub refused_by : (left : Option (List ℕ)) (has_ended : Type 0) (bytes : List ℕ) (why : AcceptStop) (had took : Option (List ℕ)) (status : Status) (told_run : Option Closed)
+      → told_run ≡ None → WereLeft left bytes → case_accepted bytes ≡ Err why → HadMemory why
       → IsSilent status had took ⊎ Wrote Refused (refusal_line why) status had took → AnswersCase view faults telling store before end left has_ended had took status told_run
   refused_by left has_ended bytes why had took status told_run none read refuses named (inl silent) =
       subst (λ t. AnswersCase view faults telling store before end left has_ended had took status t) (sym none) (is_silent silent)
@@ -208,9 +256,9 @@ module _ {D : Type 0} (view : D → DiskView) (faults : D → ℕ) (telling : Te
       subst (λ t. AnswersCase view faults telling store before end left has_ended had took status t) (sym none) (is_silent silent)
 
   -- bytes that are refused, or for which memory ran out
-  pub stopped_run : (left : Option (List ℕ)) (has_ended : Type 0) (bytes : List ℕ) (why : CaseStop) (had took : Option (List ℕ)) (status : Status) (told_run : Option Closed)
-      → told_run ≡ None → WereLeft left bytes → (why ≢ stop.NoMemory → case_in bytes ≡ Err why)
-      → (why ≢ stop.NoMemory → IsSilent status had took ⊎ Wrote Refused (refusal_line why) status had took) → (why ≡ stop.NoMemory → IsSilent status had took)
+  pub stopped_run : (left : Option (List ℕ)) (has_ended : Type 0) (bytes : List ℕ) (why : AcceptStop) (had took : Option (List ℕ)) (status : Status) (told_run : Option Closed)
+      → told_run ≡ None → WereLeft left bytes → (HadMemory why → case_accepted bytes ≡ Err why)
+      → (HadMemory why → IsSilent status had took ⊎ Wrote Refused (refusal_line why) status had took) → (WantedMemory why → IsSilent status had took)
       → AnswersCase view faults telling store before end left has_ended had took status told_run
   stopped_run left has_ended bytes why had took status told_run none read refuses line silent = elim (is_memory why) [
     | inl e ↦ silent_run left has_ended had took status told_run none (silent e)
@@ -218,31 +266,31 @@ module _ {D : Type 0} (view : D → DiskView) (faults : D → ℕ) (telling : Te
   ]
 
   pub too_long_run : (left : Option (List ℕ)) (has_ended : Type 0) (had took : Option (List ℕ)) (status : Status) (told_run : Option Closed)
-      → told_run ≡ None → IfSome left (λ bytes. 16777216 < length bytes) → IsSilent status had took ⊎ Wrote Refused (refusal_line stop.TooLong) status had took
+      → told_run ≡ None → IfSome left (λ bytes. 16777216 < length bytes) → IsSilent status had took ⊎ Wrote Refused (case_line stop.TooLong) status had took
       → AnswersCase view faults telling store before end left has_ended had took status told_run
   too_long_run None has_ended had took status told_run none more line =
-      let it = longer_than 16777216 in refused_by None has_ended it.0 stop.TooLong had took status told_run none tt (too_long it.0 it.1) (λ e. absurd cc) line
+      let it = longer_than 16777216 in refused_by None has_ended it.0 (accept.Case stop.TooLong) had took status told_run none tt (too_long it.0 it.1) (λ e. absurd cc) line
   too_long_run (Some bytes) has_ended had took status told_run none more line =
-      refused_by (Some bytes) has_ended bytes stop.TooLong had took status told_run none refl (too_long bytes more) (λ e. absurd cc) line
+      refused_by (Some bytes) has_ended bytes (accept.Case stop.TooLong) had took status told_run none refl (too_long bytes more) (λ e. absurd cc) line
 
 -- ---- one case
 
-case_or : Spelled → Result Spelled CaseStop → Spelled
+case_or : Spelled → Result Spelled AcceptStop → Spelled
 case_or other (Ok case) = case
 case_or other (Err why) = other
 
-pub one_case : (bytes : List ℕ) (case other : Spelled) → case_in bytes ≡ Ok case → case_in bytes ≡ Ok other → other ≡ case
+pub one_case : (bytes : List ℕ) (case other : Spelled) → case_accepted bytes ≡ Ok case → case_accepted bytes ≡ Ok other → other ≡ case
 unfolding case_or
 one_case bytes case other is also = ap (case_or case) (sym also ∙ is)
 
 -- ---- the told run
 
 -- the history of a run that is told in the order of one worker, where nothing failed
-told_headline : {D : Type 0} → OrderedIsTold → (workers : ℕ) (store : Bool) (disk : DiskView) (first : Store D) (case : Spelled) (old : List TapeEntry) (left : Option (List ℕ)) (has_ended : Type 0)
-    (had took : Option (List ℕ)) (status : Status) (closed : Closed) → Headline (by_workers workers) store disk first case old left has_ended had took status closed
+told_headline : {D : Type 0} → OrderedIsTold → (workers : ℕ) (store : Bool) (disk : DiskView) (first : Store D) (case : Spelled) (policy : Roles) (old : List TapeEntry) (left : Option (List ℕ)) (has_ended : Type 0)
+    (had took : Option (List ℕ)) (status : Status) (closed : Closed) → Headline (by_workers workers) store disk first case policy old left has_ended had took status closed
     → IsInWorkerOrder 1 closed.history.entries → HasNoFault closed.history.entries
     → closed.history.entries ≡ told (rules_in case) case.cover.owned closed.opening case.sessions
-told_headline ordered workers store disk first case old left has_ended had took status closed it in_order none =
+told_headline ordered workers store disk first case policy old left has_ended had took status closed it in_order none =
     ordered (rules_in case) case.cover.owned closed.opening case.sessions closed.history.entries it.history.2 none in_order (it.sessions.all none) it.sessions.no_other
 
 pub entry_at : (P : Entry → Type 0) (J : List Entry) (b : ℕ) (y : Entry) → All P J → slice_get J b ≡ Some y → P y
@@ -253,9 +301,9 @@ one_session : (J : List Entry) → All (λ (entry : Entry). entry.session < 1) J
 one_session J only a b x y here there less same =
     let none : y.session < 1 = entry_at (λ (entry : Entry). entry.session < 1) J b y only there in absurd (omega (arith, none, less))
 
-module _ {D : Type 0} (view : D → DiskView) (faults : D → ℕ) (law : CasesAreTheFormats) (ordered : OrderedIsTold) (workers : ℕ) (store : Bool) (before end : D) (has_ended : Type 0)
+module _ {D : Type 0} (view : D → DiskView) (faults : D → ℕ) (law : AcceptedAreTheFormats) (ordered : OrderedIsTold) (workers : ℕ) (store : Bool) (before end : D) (has_ended : Type 0)
     (had took : Option (List ℕ)) (status : Status) where
-  same_case : (bytes : List ℕ) (case : Spelled) (closed : Closed) → case_in bytes ≡ Ok case
+  same_case : (bytes : List ℕ) (case : Spelled) (closed : Closed) → case_accepted bytes ≡ Ok case
       → (it : TellsRun view faults (by_workers workers) store before end (Some bytes) has_ended had took status closed) → it.case ≡ case
   same_case bytes case closed is it = one_case bytes case it.case is (read_as view faults (by_workers workers) store before end law bytes has_ended had took status closed it)
 
@@ -265,7 +313,7 @@ module _ {D : Type 0} (view : D → DiskView) (faults : D → ℕ) (law : CasesA
   told_by_one (Some bytes) None it = λ case is. tt
   told_by_one (Some bytes) (Some closed) it = λ case is one none.
       let J = closed.history.entries in
-      told_headline ordered workers store (view before) it.first it.case it.old (Some bytes) has_ended had took status closed it.headline
+      told_headline ordered workers store (view before) it.first it.case it.policy it.old (Some bytes) has_ended had took status closed it.headline
       (subst (λ w. IsInWorkerOrder w J) one it.headline.order) none
       ∙ ap (λ (c : Spelled). told (rules_in c) c.cover.owned closed.opening c.sessions) (same_case bytes case closed is it)
 
@@ -279,7 +327,7 @@ module _ {D : Type 0} (view : D → DiskView) (faults : D → ℕ) (law : CasesA
       let AllDone : List Entry → Type 0 = λ K. All (λ (entry : Entry). entry.outcome ≡ outcome.Done) K in
       let Below : ℕ → Type 0 = λ n. All (λ (entry : Entry). entry.session < n) J in
       let only : length it.case.sessions ≡ 1 = ap (λ (c : Spelled). length c.sessions) same ∙ ap (λ (s : List (List Call)). length s) one in
-      let history = told_headline ordered workers store (view before) it.first it.case it.old (Some bytes) has_ended had took status closed it.headline
+      let history = told_headline ordered workers store (view before) it.first it.case it.policy it.old (Some bytes) has_ended had took status closed it.headline
       (one_session J (subst Below only it.headline.sessions.no_other)) none
       ∙ ap (λ (c : Spelled). told (rules_in c) c.cover.owned M c.sessions) same ∙ ap (told (rules_in case) case.cover.owned M) one in
       subst AllDone (sym history) (a_run_is_done_lem (rules_in case) case.cover.owned M events executions run spell)

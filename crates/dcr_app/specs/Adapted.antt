@@ -24,7 +24,7 @@ use Rattle.dcr_adapt.specs.declared.stop.StageStop.{StageStop}
 use Rattle.dcr_adapt.specs.declared.stop.StageStop.TheVariants as stage
 use Rattle.dcr_app.specs.Headline.{rules_in}
 use Rattle.dcr_app.specs.Outside.{IsSilent, WereLeft, Wrote}
-use Rattle.dcr_app.specs.Refusal.{refusal_line}
+use Rattle.dcr_app.specs.Refusal.{case_line, policy_line}
 use Rattle.dcr_app.specs.Telling.{atoms_in}
 
 -- ---- a stage
@@ -106,12 +106,13 @@ pub data AdaptRefusal : Type 0 where
 -- the line that tells why the lines of a text are no stages; want of memory has none
 abbrev pub stage_line : StageStop → List ℕ
 stage_line (stage.Cases count) = codes "refused 14 cases " ++ decimal count ++ codes "\n"
-stage_line (stage.Stage i why) = codes "case " ++ decimal i ++ codes " " ++ refusal_line why
+stage_line (stage.Stage i why) = codes "case " ++ decimal i ++ codes " " ++ case_line why
+stage_line (stage.Policy i why) = codes "case " ++ decimal i ++ codes " " ++ policy_line why
 stage_line (stage.Dropped i name) = codes "case " ++ decimal i ++ codes " refused 13 dropped " ++ name ++ codes "\n"
 stage_line stage.NoMemory = []
 
 abbrev pub adapt_line : AdaptRefusal → List ℕ
-adapt_line too_long = refusal_line stop.TooLong
+adapt_line too_long = case_line stop.TooLong
 adapt_line (no_stages why) = stage_line why
 
 -- this is the first refusal of the input's bytes

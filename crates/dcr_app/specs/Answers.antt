@@ -20,10 +20,7 @@ use Rattle.dcr_cluster.specs.Opening.{ArePossible}
 use Rattle.dcr_node.specs.WorldState.{WorldState}
 use Rattle.dcr_schedule.specs.Apart.{HasRunApart}
 use Rattle.dcr_schedule.specs.Executions.{exec_calls}
-use Rattle.dcr_json.specs.Case.{case_in}
 use Rattle.dcr_json.specs.Judged.{Spelled}
-use Rattle.dcr_json.specs.Refusals.{SpellsCase}
-use Rattle.dcr_json.specs.declared.case.CaseStop.{CaseStop}
 use Rattle.dcr_json.specs.declared.case.CaseStop.TheVariants as stop
 use Rattle.dcr_report.specs.Report.{report_text}
 use Rattle.dcr_replay.specs.FirstWrong.{IsVerdict}
@@ -33,12 +30,16 @@ use Rattle.dcr_replay.specs.Words.{word_of}
 use Rattle.dcr_replay.specs.declared.verdict.Verdict.{Verdict}
 use Rattle.dcr_replay.specs.declared.verdict.Verdict.TheVariants as verdict
 use Rattle.dcr_replay.specs.declared.verdict.Wrong.{Wrong}
+use Rattle.dcr_policy.specs.Roles.{Roles}
+use Rattle.dcr_roles.specs.Accepted.{HadMemory, case_accepted}
+use Rattle.dcr_roles.specs.Laws.{AcceptsCase}
+use Rattle.dcr_roles.specs.declared.accepted.AcceptStop.{AcceptStop}
 use Rattle.dcr_app.specs.Adapted.{AnswersStages, RefusesStages}
 use Rattle.dcr_app.specs.Headline.{Headline, cluster_in, digest_of, rules_in}
 use Rattle.dcr_app.specs.Loaded.{AnswersLoad}
 use Rattle.dcr_app.specs.Logged.{AnswersLog, RefusesInput}
 use Rattle.dcr_app.specs.Outside.{WereLeft, Wrote, IsSilent}
-use Rattle.dcr_app.specs.Refusal.{refusal_line}
+use Rattle.dcr_app.specs.Refusal.{case_line, refusal_line}
 use Rattle.dcr_app.specs.Stored.{Keeps, RefusesTape, tape_line}
 use Rattle.dcr_app.specs.Telling.{Doors, Telling, by_workers, over_links}
 use Rattle.dcr_app.specs.declared.app.End.{End}
@@ -52,31 +53,32 @@ use Rattle.dcr_app.specs.declared.command.Command.TheVariants.{Run, Serve, Repla
 pub record TellsRun {D : Type 0} (view : D → DiskView) (faults : D → ℕ) (telling : Telling D) (store : Bool) (before after : D) (left : Option (List ℕ)) (has_ended : Type 0)
     (had took : Option (List ℕ)) (status : Status) (closed : Closed) : Type 0 where
   pub case : Spelled
+  pub policy : Roles
   pub old : List TapeEntry
   pub few : length old ≤ most_records
   pub possible : ArePossible (cluster_in case old) (length old)
   pub first : Store D
   -- it is a tape where there is a store
   pub taped : IsTaped (Some first) → store ≡ true
-  pub headline : Headline telling store (view before) first case old left has_ended had took status closed
+  pub headline : Headline telling store (view before) first case policy old left has_ended had took status closed
   pub disk : Keeps store view faults (digest_of case) old closed.history.entries before after
 
--- the bytes that were read are no case, and the line of the first refusal was due
+-- the bytes that were read are not accepted, and the line of the first refusal was due
 pub record IsRefused (left had took : Option (List ℕ)) (status : Status) : Type 0 where
   pub bytes : List ℕ
   pub read : WereLeft left bytes
-  pub why : CaseStop
-  pub refuses : case_in bytes ≡ Err why
-  pub named : why ≢ stop.NoMemory
+  pub why : AcceptStop
+  pub refuses : case_accepted bytes ≡ Err why
+  pub named : HadMemory why
   pub line : Wrote Refused (refusal_line why) status had took
 
--- The bytes that were read are a case, and the disk, which wasn't empty, is refused as its tape: the line of a cause that
+-- The bytes that were read are accepted, and the disk, which wasn't empty, is refused as its tape: the line of a cause that
 -- stands in its content was due. The disk tells that content and still has it.
 pub record IsTapeRefused (before after : DiskView) (left had took : Option (List ℕ)) (status : Status) : Type 0 where
   pub bytes : List ℕ
   pub read : WereLeft left bytes
   pub case : Spelled
-  pub spelled : case_in bytes ≡ Ok case
+  pub spelled : case_accepted bytes ≡ Ok case
   pub content : List ℕ
   pub was : IsTrue before.told → before.content ≡ content
   pub stays : IsTrue after.told × (after.content ≡ content)
@@ -104,12 +106,12 @@ AnswersCase view faults telling store before after left has_ended had took statu
 -- single session that spells a run of the graph from where it begins, each event at a site that owns it, is answered by
 -- done at each of its calls, by however many workers.
 abbrev pub IsToldByOne : ℕ → Option (List ℕ) → Option Closed → Type 0
-IsToldByOne workers left told_run = IfSome left (λ bytes. (case : Spelled) → case_in bytes ≡ Ok case
+IsToldByOne workers left told_run = IfSome left (λ bytes. (case : Spelled) → case_accepted bytes ≡ Ok case
     → IfSome told_run (λ closed. workers ≡ 1 → HasNoFault closed.history.entries
     → closed.history.entries ≡ told (rules_in case) case.cover.owned closed.opening case.sessions))
 
 abbrev pub IsDoneThroughout : Option (List ℕ) → Option Closed → Type 0
-IsDoneThroughout left told_run = IfSome left (λ bytes. (case : Spelled) (events : List ℕ) (executions : List (ℕ × ℕ)) → case_in bytes ≡ Ok case
+IsDoneThroughout left told_run = IfSome left (λ bytes. (case : Spelled) (events : List ℕ) (executions : List (ℕ × ℕ)) → case_accepted bytes ≡ Ok case
     → case.sessions ≡ calls_for executions ∷ [] → Spell case.cover.owned events executions
     → IfSome told_run (λ closed. IsRun (rules_in case) closed.opening events → HasNoFault closed.history.entries
     → All (λ (entry : Entry). entry.outcome ≡ outcome.Done) closed.history.entries))
@@ -137,7 +139,7 @@ pub record IsAnsweredTape (IsDone : Status → Type 0) (case : Spelled) (content
   pub refused : (cause : TapeCause) → content ≢ [] → RefusesTape case content cause → IsOr TapeRefused status
 
 -- a case is done, where its tape is not refused, and other bytes are refused
-abbrev pub IsAnsweredCase : (Status → Type 0) → Bool → DiskView → Result Spelled CaseStop → Status → Type 0
+abbrev pub IsAnsweredCase : (Status → Type 0) → Bool → DiskView → Result Spelled AcceptStop → Status → Type 0
 IsAnsweredCase IsDone store disk (Err why) status = IsOr Refused status
 IsAnsweredCase IsDone false disk (Ok case) status = IsDone status
 IsAnsweredCase IsDone true disk (Ok case) status = IsTrue disk.told → IsAnsweredTape IsDone case disk.content status
@@ -159,7 +161,7 @@ Finds bytes (Some verdict) = (length bytes ≤ 268435456) × IsVerdict bytes ver
 
 -- the line that is due where this is found, and its status
 abbrev pub WroteFound : Option Verdict → Status → Option (List ℕ) → Option (List ℕ) → Type 0
-WroteFound None status had took = Wrote Refused (refusal_line stop.TooLong) status had took
+WroteFound None status had took = Wrote Refused (case_line stop.TooLong) status had took
 WroteFound (Some verdict) status had took = Wrote (verdict_status verdict) (verdict_line verdict) status had took
 
 -- the bytes that were read were checked, and the line of what was found was due
@@ -200,8 +202,8 @@ IsAnsweredReport bytes status =
 -- The executions of the case that was read were run at sites apart, and the report of that run was due.
 pub record TellsApart (left : Option (List ℕ)) (has_ended : Type 0) (had took : Option (List ℕ)) (status : Status) (closed : Closed) (world : WorldState) : Type 0 where
   pub case : Spelled
-  -- the bytes that the input had left at entry spell the case, and none is left
-  pub input : (bytes : List ℕ) × WereLeft left bytes × SpellsCase bytes case × has_ended
+  -- the bytes that the input had left at entry are accepted as the case, and none is left
+  pub input : (bytes : List ℕ) × WereLeft left bytes × AcceptsCase bytes case × has_ended
   -- the world is one over the case's graph, cover and opening marking, its journal is the told run of the executions,
   -- every site has heard of its whole stream, and the run that is told is how the world closed
   pub ran : HasRunApart (rules_in case) case.cover.owned case.opening case.sessions world closed
@@ -262,10 +264,10 @@ Answers view faults doors (Some (Nodes number)) door before left has_ended had t
 Answers view faults doors (Some Conform) door before left has_ended had took end = (end.closed ≡ None) × AnswersLog left has_ended had took end.status
 Answers view faults doors (Some Adapt) door before left has_ended had took end = AnswersStages left has_ended had took end.status end.closed
 
--- the line that was written says why the bytes that were read are no case
+-- the line that was written says why the bytes that were read are not accepted
 abbrev pub RefusesCase : Option (List ℕ) → Option (List ℕ) → Option (List ℕ) → Type 0
 RefusesCase left had took = (bytes : List ℕ) × WereLeft left bytes
-    × ((why : CaseStop) × (case_in bytes ≡ Err why) × (why ≢ stop.NoMemory) × Appends had took (refusal_line why))
+    × ((why : AcceptStop) × (case_accepted bytes ≡ Err why) × HadMemory why × Appends had took (refusal_line why))
 
 -- The line that was written says why the input is refused: the first refusal of a case, or of a case and the log behind it,
 -- that holds, or that a report has too many bytes. Words that are no command, and a number, refuse nothing.
@@ -278,4 +280,4 @@ Refuses (Some (Nodes number)) left had took = RefusesCase left had took
 Refuses (Some Conform) left had took = RefusesInput left had took
 Refuses (Some Adapt) left had took = RefusesStages left had took
 Refuses (Some Replay) left had took =
-    IfSome left (λ bytes. 268435456 < length bytes) × Appends had took (refusal_line stop.TooLong)
+    IfSome left (λ bytes. 268435456 < length bytes) × Appends had took (case_line stop.TooLong)

@@ -15,7 +15,8 @@ use Rattle.dcr_tape.specs.declared.entry.TapeEntry.{TapeEntry}
 use Rattle.dcr_tape.specs.declared.tape.Store.{Store}
 use Rattle.dcr_cell.specs.ClusterId.{ClusterId, begun}
 use Rattle.dcr_json.specs.Judged.{Spelled}
-use Rattle.dcr_json.specs.Refusals.{SpellsCase}
+use Rattle.dcr_policy.specs.Roles.{Roles}
+use Rattle.dcr_roles.specs.Laws.{SpellsBoth}
 use Rattle.dcr_report.specs.Report.{case_text, report_text}
 use Rattle.dcr_app.specs.Outside.{WereLeft, Wrote}
 use Rattle.dcr_app.specs.Telling.{IsDueBy, Telling}
@@ -51,15 +52,16 @@ BeginsWith false digest disk old = old ≡ []
 abbrev pub IsDueFor : {D : Type 0} → Telling D → List Entry → Status → Type 0
 IsDueFor telling J due = IsDueBy (HasNoFault J) (telling.full J) telling.door_failed due
 
--- The journal of one run of the whole graph, of the case that was read, with a store or without one; with one it goes on
+-- The journal of one run of the whole graph, of the case and the policy that were read, with a store or without one; with one it goes on
 -- from the executions `old`. `telling` is what the command tells of its own: `by_workers` of `run`, `over_links` of `serve`.
 -- `disk` is the disk at entry, and `first` the store that the run began with. `left` is what the input had left at entry,
 -- where it tells that, and `has_ended` that it has come to its end; `had` is what the output had taken at entry, and `took`
 -- what it has taken now, where it tells that; `status` is how the program ended.
-pub record Headline {D : Type 0} (telling : Telling D) (store : Bool) (disk : DiskView) (first : Store D) (case : Spelled) (old : List TapeEntry) (left : Option (List ℕ)) (has_ended : Type 0)
+pub record Headline {D : Type 0} (telling : Telling D) (store : Bool) (disk : DiskView) (first : Store D) (case : Spelled) (policy : Roles) (old : List TapeEntry) (left : Option (List ℕ)) (has_ended : Type 0)
     (had took : Option (List ℕ)) (status : Status) (closed : Closed) : Type 0 where
-  -- 1. The bytes that the input had left at entry spell the case, and none is left.
-  pub input : (bytes : List ℕ) × WereLeft left bytes × SpellsCase bytes case × has_ended
+  -- 1. The bytes that the input had left at entry spell the case and its policy, which denies no call of its sessions, and
+  -- none is left.
+  pub input : (bytes : List ℕ) × WereLeft left bytes × SpellsBoth bytes (record { case = case; policy = policy }) × has_ended
   -- 2. The run begins with the opening marking of the case, stepped by the executions that the disk stood for. Its history
   -- is a run of the whole graph, in which each call has the graph's answer at its place; with `Done`, and without a store,
   -- no execution failed.
@@ -69,7 +71,7 @@ pub record Headline {D : Type 0} (telling : Telling D) (store : Bool) (disk : Di
       × ((status ≡ Done) ⊎ (store ≡ false) → HasNoFault closed.history.entries)
   -- 3. It has every call of each session, once and in order, and no entry of another session (`HasCalls`). Sessions over
   -- links have those that their links asked for, and each was answered by its entries (`ServedIn`).
-  pub sessions : telling.sessions first case closed.history.entries
+  pub sessions : telling.sessions first case policy closed.history.entries
   -- 4. Of two sessions of one worker every entry of the earlier one stands before every entry of the later one. Of sessions
   -- over links no order is claimed.
   pub order : telling.order closed.history.entries

@@ -1,21 +1,22 @@
 -- What `conform` answers: how each trace of a log is judged, or why the input is refused.
-use Rattle.std.specs.Prelude.{◌≡◌, ◌≢◌, ◌⊎◌, ℕ, ◌+◌, ◌≤◌, List, [], ◌∷◌, ◌++◌, codes, decimal, drop, length, nat_le, Option, Some, None, Result, Ok, Err, if◌then◌else◌}
+use Rattle.std.specs.Prelude.{◌≡◌, ◌⊎◌, ℕ, ◌+◌, ◌≤◌, List, [], ◌∷◌, ◌++◌, codes, decimal, drop, length, nat_le, Option, Some, None, Result, Ok, Err, if◌then◌else◌}
 use Rattle.std.specs.Io.KnownBytes.{Appends}
 use Rattle.dcr_base.specs.declared.status.Status.{Status}
 use Rattle.dcr_base.specs.declared.status.Status.TheVariants.{Done, Refused, NoMemory}
 use Rattle.dcr_text.specs.Lines.{pieces_of}
 use Rattle.dcr_graph.specs.GraphValue.{Flat}
 use Rattle.dcr_nest.specs.FlatRelation.{IsFlattening}
-use Rattle.dcr_json.specs.Case.{case_in}
 use Rattle.dcr_json.specs.Judged.{Spelled}
-use Rattle.dcr_json.specs.Refusals.{SpellsCase}
-use Rattle.dcr_json.specs.declared.case.CaseStop.{CaseStop}
 use Rattle.dcr_json.specs.declared.case.CaseStop.TheVariants as stop
 use Rattle.dcr_log.specs.Records.{Record, first_bad, records_of}
 use Rattle.dcr_log.specs.Traces.{traces_of}
 use Rattle.dcr_conform.specs.Judge.{AreJudged}
 use Rattle.dcr_conform.specs.Lines.{judged_text}
 use Rattle.dcr_conform.specs.declared.judged.Judged.{Judged}
+use Rattle.dcr_roles.specs.Accepted.{HadMemory, case_accepted}
+use Rattle.dcr_roles.specs.Laws.{AcceptsCase}
+use Rattle.dcr_roles.specs.declared.accepted.AcceptStop.{AcceptStop}
+use Rattle.dcr_roles.specs.declared.accepted.AcceptStop.TheVariants as accept
 use Rattle.dcr_app.specs.Outside.{IsSilent, WereLeft, Wrote}
 use Rattle.dcr_app.specs.Refusal.{refusal_line}
 
@@ -40,13 +41,13 @@ rows_in bytes = records_of (log_text bytes)
 
 -- ---- refusals
 
--- the case that the first line spells, or its first refusal; an input of more than 16,777,216 bytes is too long
-abbrev pub case_before_log : List ℕ → Result Spelled CaseStop
-case_before_log bytes = if nat_le (length bytes) 16777216 then case_in (case_text bytes) else Err stop.TooLong
+-- the case as which the first line is accepted, or its first refusal; an input of more than 16,777,216 bytes is too long
+abbrev pub case_before_log : List ℕ → Result Spelled AcceptStop
+case_before_log bytes = if nat_le (length bytes) 16777216 then case_accepted (case_text bytes) else Err (accept.Case stop.TooLong)
 
 -- why an input is refused: for its case, or since the record of this number is the first bad one of its log
 pub data InputRefusal : Type 0 where
-  no_case : CaseStop → InputRefusal
+  no_case : AcceptStop → InputRefusal
   bad_record : ℕ → InputRefusal
 
 -- the line that tells of a bad record
@@ -60,7 +61,7 @@ input_line (bad_record row) = record_line row
 
 -- the first refusal of the input's bytes is this one: of its case, or, where that is one, of its log
 abbrev pub IsInputRefused : List ℕ → InputRefusal → Type 0
-IsInputRefused bytes (no_case why) = (case_before_log bytes ≡ Err why) × (why ≢ stop.NoMemory)
+IsInputRefused bytes (no_case why) = (case_before_log bytes ≡ Err why) × HadMemory why
 IsInputRefused bytes (bad_record row) = (case : Spelled) × (case_before_log bytes ≡ Ok case) × (first_bad (rows_in bytes) ≡ Some row)
 
 -- the bytes that were read are refused, and the line of the first refusal was due
@@ -76,9 +77,9 @@ pub record IsRefusedInput (left had took : Option (List ℕ)) (status : Status) 
 -- The traces of the log were judged by the whole graph of the case, from its opening marking, and their lines were due.
 pub record TellsLog (left : Option (List ℕ)) (has_ended : Type 0) (had took : Option (List ℕ)) (status : Status) : Type 0 where
   pub case : Spelled
-  -- of the bytes that the input had left at entry, which are few enough, the first line spells the case, the log behind it
+  -- of the bytes that the input had left at entry, which are few enough, the first line is accepted as the case, the log behind it
   -- has no bad record, and none is left
-  pub input : (bytes : List ℕ) × WereLeft left bytes × (length bytes ≤ 16777216) × SpellsCase (case_text bytes) case × (first_bad (rows_in bytes) ≡ None) × has_ended
+  pub input : (bytes : List ℕ) × WereLeft left bytes × (length bytes ≤ 16777216) × AcceptsCase (case_text bytes) case × (first_bad (rows_in bytes) ≡ None) × has_ended
   -- the flat graph of the case
   pub graph : Flat
   pub flat : IsFlattening case.nested graph
@@ -97,7 +98,7 @@ abbrev pub RefusesInput : Option (List ℕ) → Option (List ℕ) → Option (Li
 RefusesInput left had took = (bytes : List ℕ) × WereLeft left bytes × ((why : InputRefusal) × IsInputRefused bytes why × Appends had took (input_line why))
 
 -- what an input and an output that don't fail end with: a case and a log without a bad record are done, and others refused
-abbrev pub EndsLog : Result Spelled CaseStop → Option ℕ → Status → Type 0
+abbrev pub EndsLog : Result Spelled AcceptStop → Option ℕ → Status → Type 0
 EndsLog (Err why) found status = (status ≡ Refused) ⊎ (status ≡ NoMemory)
 EndsLog (Ok case) (Some row) status = (status ≡ Refused) ⊎ (status ≡ NoMemory)
 EndsLog (Ok case) None status = (status ≡ Done) ⊎ (status ≡ NoMemory)

@@ -21,6 +21,7 @@ use Rattle.dcr_cluster.specs.declared.refused.OpenCause.{OpenCause}
 use Rattle.dcr_cluster.specs.declared.refused.OpenCause.TheVariants as opening
 use Rattle.dcr_engine.specs.Ran.{IsWhole}
 use Rattle.dcr_json.specs.Judged.{Spelled}
+use Rattle.dcr_policy.specs.Roles.{Roles}
 use Rattle.dcr_report.specs.Report.{report_text}
 use Rattle.dcr_app.specs.Headline.{IsDueFor, cluster_in, digest_of}
 use Rattle.dcr_app.specs.Outside.{IsSilent, Wrote}
@@ -88,14 +89,14 @@ tape_cause opening.NoMemory = NoMemory
 tape_cause (opening.BadTape at) = BadTape at
 tape_cause opening.DiskFault = DiskFault
 
--- the case was run over this store, and the report of the run was due
-pub record RanOver {D : Type 0} (view : D → DiskView) (faults : D → ℕ) (telling : Telling D) (case : Spelled) (old : List TapeEntry) (first : Store D) (disk : D)
+-- the case was run over this store, with its policy, and the report of the run was due
+pub record RanOver {D : Type 0} (view : D → DiskView) (faults : D → ℕ) (telling : Telling D) (case : Spelled) (policy : Roles) (old : List TapeEntry) (first : Store D) (disk : D)
     (had took : Option (List ℕ)) (status : Status) (closed : Closed) : Type 0 where
   pub last : Store D
   pub same : disk ≡ disk_in last
   pub possible : ArePossible (cluster_in case old) (length old)
   pub whole : IsWhole view faults (cluster_in case old) first closed last
-  pub sessions : telling.sessions first case closed.history.entries
+  pub sessions : telling.sessions first case policy closed.history.entries
   pub order : telling.order closed.history.entries
   pub report : (due : Status) × IsDueFor telling closed.history.entries due
       × Wrote due (report_text case.nested case.cover closed.opening closed.history.entries) status had took
@@ -109,6 +110,6 @@ pub record RefusedOver {D : Type 0} (view : D → DiskView) (faults : D → ℕ)
   pub refused : Refused view faults (cluster_in case old) first cause last
   pub ends : EndsFor (tape_cause cause) status had took
 
-abbrev pub EndsOver : {D : Type 0} → (D → DiskView) → (D → ℕ) → Telling D → Spelled → List TapeEntry → Store D → D → Option (List ℕ) → Option (List ℕ) → Status → Option Closed → Type 0
-EndsOver view faults telling case old first disk had took status (Some closed) = RanOver view faults telling case old first disk had took status closed
-EndsOver view faults telling case old first disk had took status None = RefusedOver view faults case old first disk had took status
+abbrev pub EndsOver : {D : Type 0} → (D → DiskView) → (D → ℕ) → Telling D → Spelled → Roles → List TapeEntry → Store D → D → Option (List ℕ) → Option (List ℕ) → Status → Option Closed → Type 0
+EndsOver view faults telling case policy old first disk had took status (Some closed) = RanOver view faults telling case policy old first disk had took status closed
+EndsOver view faults telling case policy old first disk had took status None = RefusedOver view faults case old first disk had took status

@@ -10,8 +10,10 @@ use Rattle.dcr_nest.specs.Nest.{names_of, parents_of}
 use Rattle.dcr_journal.specs.declared.call.Entry.{Entry}
 use Rattle.dcr_journal.specs.declared.closed.Closed.{Closed}
 use Rattle.dcr_tape.specs.declared.tape.Store.{Store}
+use Rattle.dcr_policy.specs.Roles.{Roles}
 use Rattle.dcr_work.specs.Order.{IsInWorkerOrder}
 use Rattle.dcr_serve.specs.Left.{AreAllButFirst}
+use Rattle.dcr_link.specs.Replies.{terms_of}
 use Rattle.dcr_link.specs.declared.end.WorkCause.{WorkCause}
 use Rattle.dcr_link.specs.declared.end.WorkCause.TheVariants as cause
 use Rattle.dcr_serving.specs.Serving.{Tells}
@@ -22,10 +24,10 @@ use Rattle.dcr_json.specs.Judged.{Spelled}
 use Rattle.dcr_app.specs.declared.way.Way.{Way}
 use Rattle.dcr_app.specs.declared.way.Way.TheVariants.{Run, Serve}
 
--- `sessions` is told of the sessions of a history that began over this store, and `order` of the order of its entries. `full`
+-- `sessions` is told of the sessions of a history that began over this store, of a case and its policy, and `order` of the order of its entries. `full`
 -- is that it is full, and `door_failed` that the door failed.
 pub record Telling (D : Type 0) : Type 1 where
-  pub sessions : Store D → Spelled → List Entry → Type 0
+  pub sessions : Store D → Spelled → Roles → List Entry → Type 0
   pub order : List Entry → Type 0
   pub full : List Entry → Type 0
   pub door_failed : Type 0
@@ -34,7 +36,7 @@ pub record Telling (D : Type 0) : Type 1 where
 
 abbrev pub by_workers : {D : Type 0} → ℕ → Telling D
 by_workers workers = record {
-  sessions = λ first case J. HasCalls case.sessions J;
+  sessions = λ first case policy J. HasCalls case.sessions J;
   order = IsInWorkerOrder workers;
   full = λ J. ⊥;
   door_failed = ⊥;
@@ -65,7 +67,7 @@ atoms_in case = of_atoms (parents_of case.nested.nodes) (names_of case.nested.no
 -- So many sessions over the links that the door had before, which have ended so. The order is that of the locks.
 abbrev pub over_links : {D B L R : Type 0} → Doors B L R → B → B → ℕ → List (LinkEnd L R) → Telling D
 over_links doors before after sessions ends = record {
-  sessions = λ first case J. ServedIn doors.tells first case.cover.names (atoms_in case) (doors.links before) sessions ends J;
+  sessions = λ first case policy J. ServedIn doors.tells first (terms_of case.cover.names (atoms_in case) policy) (doors.links before) sessions ends J;
   order = λ J. ⊤;
   full = λ J. length J ≡ most_served;
   door_failed = Rose (doors.faults before) (doors.faults after);

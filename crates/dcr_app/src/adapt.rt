@@ -12,8 +12,8 @@ ghost use Rattle.dcr_app.specs.Outside.{IsSilent, TookAtMost, Wrote};
 
 use crate::answer::Answer;
 use crate::lines::{numbered, text};
-use crate::refusal::line_of;
-use crate::say::{refuse, say, silent};
+use crate::refusal::{case_line, policy_line};
+use crate::say::{refuse_long, say, silent};
 use crate::stored::{disk_of, report};
 use dcr_adapt::{StageStop, carry, read_stages, when_each_stage_is_refused};
 use dcr_base::{Disk, Gate, ReadStop, Sink, Source, Status, read_all};
@@ -21,7 +21,7 @@ use dcr_cluster::{Finished, OpenRefused};
 use dcr_engine::{ordered_is_told, run_case};
 use dcr_graph::{Marking, Name};
 use dcr_journal::Closed;
-use dcr_json::{Case, CaseStop};
+use dcr_json::Case;
 use dcr_set::NoMemory;
 use dcr_tape::Store;
 use dcr_text::decimal;
@@ -58,7 +58,7 @@ pub(crate) fn adapt<
 {
     match read_all(alloc, input, MAX_BYTES) {
         Ok(bytes) => adapt_bytes(rt, alloc, &bytes, output, disk, &gate),
-        Err(ReadStop::TooLong) => (refuse(alloc, output, CaseStop::TooLong), disk),
+        Err(ReadStop::TooLong) => (refuse_long(output), disk),
         Err(ReadStop::ReadFault) => (silent(Status::ReadFault), disk),
         Err(ReadStop::NoMemory) => (silent(Status::NoMemory), disk),
     }
@@ -230,7 +230,8 @@ fn line_of_stage(alloc: Global, stop: &StageStop) -> Result<Vec<u8>, NoMemory>
 {
     match stop {
         StageStop::Cases { count } => numbered(alloc, b"refused 14 cases ", *count),
-        StageStop::Stage { i, stop } => behind_stage(alloc, *i, b" ", &line_of(alloc, stop)?),
+        StageStop::Stage { i, stop } => behind_stage(alloc, *i, b" ", &case_line(alloc, stop)?),
+        StageStop::Policy { i, stop } => behind_stage(alloc, *i, b" ", &policy_line(alloc, stop)?),
         StageStop::Dropped { i, a } => dropped(alloc, *i, a),
         StageStop::NoMemory => text(alloc, b""),
     }

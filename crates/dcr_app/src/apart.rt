@@ -3,16 +3,17 @@ ghost use Rattle.std.specs.Prelude.{◌≡◌, ◌≢◌, ◌≤◌, List, ℕ, 
 ghost use Rattle.std.specs.Io.KnownBytes.{IsAtEnd};
 ghost use Rattle.dcr_base.specs.Count.{Rose};
 ghost use Rattle.dcr_json.specs.Built.{case_of, IsCase};
-ghost use Rattle.dcr_json.specs.Case.{case_in};
+ghost use Rattle.dcr_roles.specs.Accepted.{case_accepted};
 ghost use Rattle.dcr_app.specs.Answers.{AnswersApart, WroteReport};
 ghost use Rattle.dcr_app.specs.Outside.{TookAtMost};
 
 use crate::answer::Answer;
-use crate::say::{refuse, silent};
+use crate::say::{refuse, refuse_long, silent};
 use crate::stored::report;
 use dcr_base::{ReadStop, Sink, Source, Status, read_all};
-use dcr_json::{Case, CaseStop, read_case, when_each_refusal_comes};
+use dcr_json::Case;
 use dcr_laws::told_has_each_call;
+use dcr_roles::{read_accepted, when_each_refusal_comes};
 use dcr_schedule::run_apart;
 use std::alloc::Global;
 
@@ -42,7 +43,7 @@ pub(crate) fn apart<I: Source, O: Sink>(
 {
     match read_all(alloc, input, MAX_BYTES) {
         Ok(bytes) => apart_bytes(alloc, number, &bytes, output),
-        Err(ReadStop::TooLong) => refuse(alloc, output, CaseStop::TooLong),
+        Err(ReadStop::TooLong) => refuse_long(output),
         Err(ReadStop::ReadFault) => silent(Status::ReadFault),
         Err(ReadStop::NoMemory) => silent(Status::NoMemory),
     }
@@ -57,8 +58,8 @@ fn apart_bytes<O: Sink>(alloc: Global, number: u32, bytes: &[u8], output: &mut O
     ensures no_write_fault { result.status ≢ Status.WriteFault → O.write_faults output.new ≡ O.write_faults output.old }
     ensures never_falls { O.write_faults output.old ≤ O.write_faults output.new }
 {
-    match read_case(alloc, bytes) {
-        Ok(case) => apart_case(alloc, number, &case, output),
+    match read_accepted(alloc, bytes) {
+        Ok(accepted) => apart_case(alloc, number, &accepted.case, output),
         Err(stop) => refuse(alloc, output, stop),
     }
 }
@@ -66,7 +67,7 @@ fn apart_bytes<O: Sink>(alloc: Global, number: u32, bytes: &[u8], output: &mut O
 // Runs the executions of a case, and writes the report.
 fn apart_case<O: Sink>(alloc: Global, number: u32, case: &Case, output: &mut O) -> Answer
     requires { IsCase case.now }
-    ensures answers { (bytes : List ℕ) → case_in bytes ≡ Ok (case_of case.now)
+    ensures answers { (bytes : List ℕ) → case_accepted bytes ≡ Ok (case_of case.now)
         → AnswersApart (Some bytes) ⊤ (O.taken output.old) (O.taken output.new) result.status result.closed result.world }
     ensures report { result.status ≡ Status.Done → WroteReport (O.taken output.old) (O.taken output.new) result.closed }
     ensures no_read_fault { result.status ≢ Status.ReadFault }

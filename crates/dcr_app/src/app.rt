@@ -1,7 +1,7 @@
 ghost use Rattle.std.specs.Prelude.{◌≡◌, ◌≢◌, ◌⊎◌, ◌≤◌, Bool, false, ℕ, length, Some, None, IfSome};
 ghost use Rattle.std.specs.Io.KnownBytes.{IsAtEnd};
 ghost use Rattle.dcr_base.specs.Count.{Rose};
-ghost use Rattle.dcr_json.specs.Case.{case_in};
+ghost use Rattle.dcr_roles.specs.Accepted.{case_accepted};
 ghost use Rattle.dcr_app.specs.Adapted.{IsAnsweredStages, WroteReports};
 ghost use Rattle.dcr_app.specs.Answers.{Answers, EndsRun, EndsServing, IsApart, IsAnsweredCase, IsAnsweredReport, IsDoneThroughout, IsOr, IsReading, IsReporting, IsServing, IsStored, IsTapeRefused, IsToldByOne, Refuses, SaysInvalid, SaysValid, WroteReport};
 ghost use Rattle.dcr_app.specs.Command.{command_in};
@@ -23,9 +23,9 @@ use crate::way::Way;
 use dcr_base::{Disk, Door, Gate, Link, Sink, Source, Status};
 use dcr_engine::ordered_is_told;
 use dcr_journal::Closed;
-use dcr_json::when_each_refusal_comes;
 use dcr_node::World;
 use dcr_replay::{a_text_has_one_verdict, the_first_wrong_line_is_told, valid_is_report};
+use dcr_roles::when_each_refusal_comes;
 use dcr_serving::LinkEnd;
 use dcr_tape::{no_cause, one_list};
 use std::alloc::Global;
@@ -56,7 +56,7 @@ pub struct End<B: Door, D> {
 /// The program. `run` reads a case file to its end, makes its sessions' calls by so many workers on sites that stand behind
 /// locks of their own and decide from their own marks, and writes the report of that run. `serve` reads a case file too, and
 /// in the place of its sessions serves so many others, each over the next link that the door gives, by so many workers: it
-/// answers their calls line by line, until each session has had its link or the door is shut or has failed, and then writes
+/// answers their calls line by line, those that the policy denies without making them, until each session has had its link or the door is shut or has failed, and then writes
 /// the report. With `--store` both go on from the executions that the disk stands for, which is made a tape of the case where
 /// it is empty, and each execution is on the disk before it is answered. `replay` reads a report to its end, checks it by the
 /// plain engine of the whole graph, and writes one line: that it is the report of a legal history, or which line is the first
@@ -65,9 +65,9 @@ pub struct End<B: Door, D> {
 /// a network that loses, repeats and reorders them as its number picks, and writes the report, which is the same for every
 /// number. `conform` reads a case file, which is its first line, and an event log behind it, judges each trace of the log by the
 /// plain engine of the whole graph, and writes one line for each in order of first appearance, and then how many there are.
-/// Other words are answered by the line `usage`. A file that is no case, and a report of more than 268,435,456
-/// bytes, is refused by one line that tells why, and so is a log with a bad record, and a disk that isn't empty and isn't a tape of the case that can be
-/// gone on from.
+/// Other words are answered by the line `usage`. A file that is no case, or whose policy fails or denies a call of its
+/// sessions, and a report of more than 268,435,456 bytes, is refused by one line that tells why, and so is a log with a bad
+/// record, and a disk that isn't empty and isn't a tape of the case that can be gone on from.
 ///
 /// `Done` comes where the report, `valid` or the line of `load` was written, `Invalid` where `invalid` was, `Usage`, `Refused` and
 /// `TapeRefused` where their lines were. `ReadFault` comes exactly where a read failed, and then nothing was written.
@@ -136,7 +136,7 @@ pub fn dcr<
         → (Rose (I.read_faults input.old) (I.read_faults input.new) → ⊥)
         → (Rose (O.write_faults output.old) (O.write_faults output.new) → ⊥)
         → (Rose (D.faults disk) (D.faults result.disk) → ⊥)
-        → IfSome (I.left input.old) (λ bytes. IsAnsweredCase EndsRun store (D.view disk) (case_in bytes) result.status) }
+        → IfSome (I.left input.old) (λ bytes. IsAnsweredCase EndsRun store (D.view disk) (case_accepted bytes) result.status) }
 
     ensures left { (sessions workers : ℕ) (store : Bool) → command_in words.now ≡ Some (Serve sessions workers store)
         → IfSome result.closed (λ closed. LeavesDoor (doors_of B.links B.is_shut B.faults B.Link.left B.Link.taken B.Link.Rest.unread B.Link.Rest.sent
@@ -150,7 +150,7 @@ pub fn dcr<
         → (Rose (O.write_faults output.old) (O.write_faults output.new) → ⊥)
         → (Rose (D.faults disk) (D.faults result.disk) → ⊥)
         → (Rose (B.faults door) (B.faults result.door) → ⊥)
-        → IfSome (I.left input.old) (λ bytes. IsAnsweredCase EndsServing store (D.view disk) (case_in bytes) result.status) }
+        → IfSome (I.left input.old) (λ bytes. IsAnsweredCase EndsServing store (D.view disk) (case_accepted bytes) result.status) }
 
     ensures valid { command_in words.now ≡ Some Replay → result.status ≡ Status.Done
         → SaysValid (I.left input.old) (O.taken output.old) (O.taken output.new) }
@@ -165,7 +165,7 @@ pub fn dcr<
     ensures apart { (number : ℕ) → command_in words.now ≡ Some (Nodes number)
         → (Rose (I.read_faults input.old) (I.read_faults input.new) → ⊥)
         → (Rose (O.write_faults output.old) (O.write_faults output.new) → ⊥)
-        → IfSome (I.left input.old) (λ bytes. IsAnsweredCase EndsRun false (D.view disk) (case_in bytes) result.status) }
+        → IfSome (I.left input.old) (λ bytes. IsAnsweredCase EndsRun false (D.view disk) (case_accepted bytes) result.status) }
     ensures conformed { command_in words.now ≡ Some Conform
         → (Rose (I.read_faults input.old) (I.read_faults input.new) → ⊥)
         → (Rose (O.write_faults output.old) (O.write_faults output.new) → ⊥)

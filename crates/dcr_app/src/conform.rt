@@ -5,7 +5,7 @@ ghost use Rattle.std.specs.List.{All};
 ghost use Rattle.dcr_base.specs.Count.{Rose};
 ghost use Rattle.dcr_graph.specs.Projection.{HasRoom};
 ghost use Rattle.dcr_json.specs.Built.{case_of, IsCase};
-ghost use Rattle.dcr_json.specs.Case.{case_in};
+ghost use Rattle.dcr_roles.specs.Accepted.{case_accepted};
 ghost use Rattle.dcr_log.specs.declared.trace.Trace.{Trace};
 ghost use Rattle.dcr_conform.specs.Judge.{AreJudged};
 ghost use Rattle.dcr_conform.specs.Lines.{judged_text};
@@ -15,12 +15,13 @@ ghost use Rattle.dcr_app.specs.Outside.{IsSilent, TookAtMost, Wrote};
 
 use crate::answer::Answer;
 use crate::lines::numbered;
-use crate::say::{refuse, say, silent};
+use crate::say::{refuse, refuse_long, say, silent};
 use dcr_base::{ReadStop, Sink, Source, Status, read_all};
 use dcr_conform::{LogStop, Trace, judge_all, read_log, write_judged};
 use dcr_graph::{Graph, Marking};
-use dcr_json::{Case, CaseStop, read_case, when_each_refusal_comes};
+use dcr_json::Case;
 use dcr_report::ReportStop;
+use dcr_roles::{read_accepted, when_each_refusal_comes};
 use std::alloc::Global;
 use std::thread::Threads;
 
@@ -49,7 +50,7 @@ pub(crate) fn conform<I: Source, O: Sink, R: Threads + Sync>(
 {
     match read_all(alloc, input, MAX_BYTES) {
         Ok(bytes) => silent(conform_bytes(rt, alloc, &bytes, output)),
-        Err(ReadStop::TooLong) => refuse(alloc, output, CaseStop::TooLong),
+        Err(ReadStop::TooLong) => refuse_long(output),
         Err(ReadStop::ReadFault) => silent(Status::ReadFault),
         Err(ReadStop::NoMemory) => silent(Status::NoMemory),
     }
@@ -70,8 +71,8 @@ fn conform_bytes<O: Sink, R: Threads + Sync>(
     ensures never_falls { O.write_faults output.old ≤ O.write_faults output.new }
 {
     let (line, log) = parts(bytes);
-    match read_case(alloc, line) {
-        Ok(case) => conform_log(rt, alloc, &case, log, output),
+    match read_accepted(alloc, line) {
+        Ok(accepted) => conform_log(rt, alloc, &accepted.case, log, output),
         Err(stop) => refuse(alloc, output, stop).status,
     }
 }
@@ -98,7 +99,7 @@ fn conform_log<O: Sink, R: Threads + Sync>(
 ) -> Status
     requires case { IsCase case.now }
     requires few { length log.now < 2 ^ 32 }
-    ensures answers { (bytes : List ℕ) → length bytes ≤ 16777216 → case_in (case_text bytes) ≡ Ok (case_of case.now) → log.now ≡ log_text bytes
+    ensures answers { (bytes : List ℕ) → length bytes ≤ 16777216 → case_accepted (case_text bytes) ≡ Ok (case_of case.now) → log.now ≡ log_text bytes
         → AnswersLog (Some bytes) ⊤ (O.taken output.old) (O.taken output.new) result }
     ensures no_read_fault { result ≢ Status.ReadFault }
     ensures counted { result ≡ Status.WriteFault → Rose (O.write_faults output.old) (O.write_faults output.new) }

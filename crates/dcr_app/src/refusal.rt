@@ -1,16 +1,28 @@
-ghost use Rattle.std.specs.Prelude.{◌≡◌, ◌++◌, codes, IfOk};
-ghost use Rattle.dcr_app.specs.Refusal.{limit_text, part_text, refusal_line};
+ghost use Rattle.std.specs.Prelude.{◌≡◌, ◌++◌, codes, decimal, IfOk};
+ghost use Rattle.dcr_app.specs.Refusal.{case_line, limit_text, part_text, policy_line, policy_text, refusal_line};
 
 use crate::lines::{named, numbered, numbered_twice, text, worded};
 use dcr_graph::Name;
 use dcr_json::{CaseStop, LimitKind, Part};
+use dcr_roles::{AcceptStop, PolicyPart, PolicyStop};
 use dcr_set::NoMemory;
+use dcr_text::decimal;
 use std::alloc::Global;
 
-/// The line that tells why a case is refused; nothing for want of memory. `NoMemory` where memory could not
+/// The line that tells why bytes are not accepted; nothing for want of memory. `NoMemory` where memory could not
 /// be had for the line itself.
-pub(crate) fn line_of(alloc: Global, stop: &CaseStop) -> Result<Vec<u8>, NoMemory>
+pub(crate) fn line_of(alloc: Global, stop: &AcceptStop) -> Result<Vec<u8>, NoMemory>
     ensures { IfOk result (λ line. line.items ≡ refusal_line stop.now) }
+{
+    match stop {
+        AcceptStop::Case { stop } => case_line(alloc, stop),
+        AcceptStop::Policy { stop } => policy_line(alloc, stop),
+    }
+}
+
+/// The same where the bytes are no case.
+pub(crate) fn case_line(alloc: Global, stop: &CaseStop) -> Result<Vec<u8>, NoMemory>
+    ensures { IfOk result (λ line. line.items ≡ case_line stop.now) }
 {
     match stop {
         CaseStop::TooLong => text(alloc, b"refused 1 too-long\n"),
@@ -32,6 +44,33 @@ pub(crate) fn line_of(alloc: Global, stop: &CaseStop) -> Result<Vec<u8>, NoMemor
         CaseStop::CallLine { k, j } => numbered_twice(alloc, b"refused 12 call-line ", *k, *j),
         CaseStop::NoMemory => text(alloc, b""),
     }
+}
+
+/// The same where the policy of a case is refused.
+pub(crate) fn policy_line(alloc: Global, stop: &PolicyStop) -> Result<Vec<u8>, NoMemory>
+    ensures { IfOk result (λ line. line.items ≡ policy_line stop.now) }
+{
+    match stop {
+        PolicyStop::Policy { part, index } => {
+            worded(alloc, b"refused 16 policy ", policy_text(*part), *index)
+        }
+        PolicyStop::Denied { k, j, role } => denied(alloc, *k, *j, role),
+        PolicyStop::NoMemory => text(alloc, b""),
+    }
+}
+
+// A call that is denied, and the role that it lacks.
+fn denied(alloc: Global, k: u32, j: u32, role: &Name) -> Result<Vec<u8>, NoMemory>
+    ensures { IfOk result (λ line. line.items ≡ codes "refused 17 denied " ++ decimal k ++ codes " " ++ decimal j ++ codes " " ++ role.now ++ codes "\n") }
+{
+    let mut line = text(alloc, b"refused 17 denied ")?;
+    decimal(u64::from(k), &mut line)?;
+    line.extend_from_slice(b" ")?;
+    decimal(u64::from(j), &mut line)?;
+    line.extend_from_slice(b" ")?;
+    line.extend_from_slice(role.text().as_bytes())?;
+    line.extend_from_slice(b"\n")?;
+    Ok(line)
 }
 
 // The names of a pair that is both included and excluded.
@@ -59,6 +98,18 @@ fn part_text(part: Part) -> &'static [u8]
         Part::Site => b"site",
         Part::Sessions => b"sessions",
         Part::Session => b"session",
+    }
+}
+
+// The word of a part of a policy.
+fn policy_text(part: PolicyPart) -> &'static [u8]
+    ensures { result.now ≡ policy_text part }
+{
+    match part {
+        PolicyPart::Event => b"event",
+        PolicyPart::Users => b"users",
+        PolicyPart::User => b"user",
+        PolicyPart::By => b"by",
     }
 }
 

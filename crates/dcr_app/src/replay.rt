@@ -7,9 +7,8 @@ ghost use Rattle.dcr_app.specs.Outside.{TookAtMost};
 
 use crate::answer::Answer;
 use crate::lines::{numbered, numbered_word};
-use crate::say::{refuse, say, silent};
+use crate::say::{refuse_long, say, silent};
 use dcr_base::{ReadStop, Sink, Source, Status, read_all};
-use dcr_json::CaseStop;
 use dcr_replay::{Verdict, check_report};
 use dcr_set::NoMemory;
 use std::alloc::Global;
@@ -34,7 +33,7 @@ pub(crate) fn replay<I: Source, O: Sink>(alloc: Global, input: &mut I, output: &
 {
     match read_all(alloc, input, MAX_BYTES) {
         Ok(bytes) => replay_bytes(alloc, &bytes, output),
-        Err(ReadStop::TooLong) => refuse(alloc, output, CaseStop::TooLong),
+        Err(ReadStop::TooLong) => refuse_long(output),
         Err(ReadStop::ReadFault) => silent(Status::ReadFault),
         Err(ReadStop::NoMemory) => silent(Status::NoMemory),
     }

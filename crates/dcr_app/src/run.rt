@@ -2,8 +2,7 @@
 ghost use Rattle.std.specs.Prelude.{◌≡◌, ◌≢◌, ◌⊎◌, ◌≤◌, List, ℕ, Some, None, Ok, false, ⊤};
 ghost use Rattle.std.specs.Io.KnownBytes.{IsAtEnd};
 ghost use Rattle.dcr_base.specs.Count.{Rose};
-ghost use Rattle.dcr_json.specs.Built.{case_of, IsCase};
-ghost use Rattle.dcr_json.specs.Case.{case_in};
+ghost use Rattle.dcr_roles.specs.Accepted.{accepted_in, both_of, IsAccepted};
 ghost use Rattle.dcr_app.specs.Answers.{AnswersCase, WroteReport};
 ghost use Rattle.dcr_app.specs.Command.{IsWay};
 ghost use Rattle.dcr_app.specs.Outside.{TookAtMost};
@@ -11,12 +10,12 @@ ghost use Rattle.dcr_app.specs.Stored.{StandsStill};
 ghost use Rattle.dcr_app.specs.Telling.{Leaves, doors_of, told_by};
 
 use crate::End;
-use crate::say::{refuse, refuse_tape, silent};
+use crate::say::{refuse, refuse_long, refuse_tape, silent};
 use crate::stored::run_over;
 use crate::way::Way;
 use dcr_base::{Disk, Door, Gate, Link, ReadStop, Sink, Source, Status, read_all};
-use dcr_json::{Case, CaseStop, read_case, when_each_refusal_comes};
 use dcr_report::case_digest;
+use dcr_roles::{Accepted, read_accepted, when_each_refusal_comes};
 use dcr_tape::{Store, TapeRefused, no_cause, one_list, open_tape};
 use std::alloc::Global;
 use std::sync::Wait;
@@ -72,9 +71,7 @@ pub(crate) fn run<
 {
     match read_all(alloc, input, MAX_BYTES) {
         Ok(bytes) => run_bytes(rt, alloc, way, store, &bytes, output, door, disk, gate),
-        Err(ReadStop::TooLong) => {
-            refuse(alloc, output, CaseStop::TooLong).over(door, disk, Vec::new(alloc))
-        }
+        Err(ReadStop::TooLong) => refuse_long(output).over(door, disk, Vec::new(alloc)),
         Err(ReadStop::ReadFault) => silent(Status::ReadFault).over(door, disk, Vec::new(alloc)),
         Err(ReadStop::NoMemory) => silent(Status::NoMemory).over(door, disk, Vec::new(alloc)),
     }
@@ -118,14 +115,14 @@ fn run_bytes<
     ensures still { result.closed ≡ None → StandsStill D.view disk result.disk }
     ensures uncalled { result.status ≡ Status.Refused → result.disk ≡ disk }
 {
-    match read_case(alloc, bytes) {
-        Ok(case) => run_case_on(rt, alloc, way, store, &case, output, door, disk, gate),
+    match read_accepted(alloc, bytes) {
+        Ok(accepted) => run_accepted(rt, alloc, way, store, &accepted, output, door, disk, gate),
         Err(stop) => refuse(alloc, output, stop).over(door, disk, Vec::new(alloc)),
     }
 }
 
-// Executes a case, and with a store opens its tape first.
-fn run_case_on<
+// Executes a case that is accepted, and with a store opens its tape first.
+fn run_accepted<
     O: Sink,
     B: Door<Link: Link<Rest: Send> + Send> + Send,
     D: Disk + Send,
@@ -136,15 +133,15 @@ fn run_case_on<
     alloc: Global,
     way: Way,
     store: bool,
-    case: &Case,
+    accepted: &Accepted,
     output: &mut O,
     door: B,
     disk: D,
     gate: G,
 ) -> End<B, D>
     requires way { IsWay way }
-    requires case { IsCase case.now }
-    ensures answers { (bytes : List ℕ) → case_in bytes ≡ Ok (case_of case.now)
+    requires accepted { IsAccepted accepted.now }
+    ensures answers { (bytes : List ℕ) → accepted_in bytes ≡ Ok (both_of accepted.now)
         → AnswersCase D.view D.faults (told_by (doors_of B.links B.is_shut B.faults B.Link.left B.Link.taken B.Link.Rest.unread B.Link.Rest.sent
         B.Link.Rest.failed_reads B.Link.Rest.failed_writes)
         door result.door result.ends.items way) store disk result.disk (Some bytes) ⊤ (O.taken output.old) (O.taken output.new)
@@ -162,7 +159,7 @@ fn run_case_on<
     ensures disks_never_fall { D.faults disk ≤ D.faults result.disk }
     ensures unstored { store ≡ false → result.disk ≡ disk }
     ensures still { result.closed ≡ None → StandsStill D.view disk result.disk }
-    ensures accepted { result.status ≢ Status.Refused }
+    ensures unrefused { result.status ≢ Status.Refused }
 {
     // What the bytes of a case say, for the headline, and that a disk stands for one list.
     when_each_refusal_comes();
@@ -172,7 +169,7 @@ fn run_case_on<
             rt,
             alloc,
             way,
-            case,
+            accepted,
             Store::Off(disk),
             &[],
             output,
@@ -180,6 +177,7 @@ fn run_case_on<
             gate,
         );
     }
+    let case = &accepted.case;
     let digest = case_digest(alloc, &case.nested, &case.graph, &case.cover, &case.opening);
     let Ok(digest) = digest else {
         return silent(Status::NoMemory).over(door, disk, Vec::new(alloc));
@@ -189,7 +187,7 @@ fn run_case_on<
             rt,
             alloc,
             way,
-            case,
+            accepted,
             Store::On(tape),
             &old,
             output,

@@ -1,8 +1,9 @@
 // Ends without a run.
 ghost use Rattle.std.specs.Prelude.{◌≡◌, ◌≢◌, ◌≤◌, ◌⊎◌, None};
 ghost use Rattle.dcr_base.specs.Count.{Rose};
+ghost use Rattle.dcr_roles.specs.Accepted.{HadMemory, WantedMemory};
 ghost use Rattle.dcr_app.specs.Outside.{IsDue, IsSilent, Wrote};
-ghost use Rattle.dcr_app.specs.Refusal.{refusal_line};
+ghost use Rattle.dcr_app.specs.Refusal.{case_line, refusal_line};
 ghost use Rattle.dcr_app.specs.Stored.{EndsFor};
 ghost use Rattle.dcr_tape.specs.Opening.{IsShown};
 
@@ -11,6 +12,7 @@ use crate::lines::numbered;
 use crate::refusal::line_of;
 use dcr_base::{Sink, Status, write_all};
 use dcr_json::CaseStop;
+use dcr_roles::{AcceptStop, PolicyStop};
 use dcr_tape::TapeCause;
 use std::alloc::Global;
 
@@ -42,17 +44,30 @@ pub(crate) fn say<O: Sink>(output: &mut O, line: &[u8], status: Status) -> Answe
     }
 }
 
-/// Tells a refusal. Nothing is written where it is want of memory, or where memory could not be had for the line. The
-/// line of a file that is too long needs none.
-pub(crate) fn refuse<O: Sink>(alloc: Global, output: &mut O, stop: CaseStop) -> Answer
+/// Tells that an input has too many bytes. Takes no memory.
+pub(crate) fn refuse_long<O: Sink>(output: &mut O) -> Answer
     ensures closed { result.closed ≡ None }
     ensures world { result.world ≡ None }
-    ensures wrote { stop ≢ CaseStop.NoMemory
+    ensures wrote { Wrote Status.Refused (case_line CaseStop.TooLong) result.status (O.taken output.old) (O.taken output.new) }
+    ensures refused { result.status ≢ Status.Done }
+    ensures read { result.status ≢ Status.ReadFault }
+    ensures had_memory { result.status ≢ Status.NoMemory }
+    ensures counted { result.status ≡ Status.WriteFault → Rose (O.write_faults output.old) (O.write_faults output.new) }
+    ensures no_fault { result.status ≢ Status.WriteFault → O.write_faults output.new ≡ O.write_faults output.old }
+    ensures never_falls { O.write_faults output.old ≤ O.write_faults output.new }
+{
+    say(output, b"refused 1 too-long\n", Status::Refused)
+}
+
+/// Tells a refusal. Nothing is written where it is want of memory, or where memory could not be had for the line.
+pub(crate) fn refuse<O: Sink>(alloc: Global, output: &mut O, stop: AcceptStop) -> Answer
+    ensures closed { result.closed ≡ None }
+    ensures world { result.world ≡ None }
+    ensures wrote { HadMemory stop
         → IsSilent result.status (O.taken output.old) (O.taken output.new)
         ⊎ Wrote Status.Refused (refusal_line stop) result.status (O.taken output.old) (O.taken output.new) }
-    ensures starves { stop ≡ CaseStop.NoMemory → result.status ≡ Status.NoMemory }
-    ensures silent { stop ≡ CaseStop.NoMemory → IsSilent result.status (O.taken output.old) (O.taken output.new) }
-    ensures too_long { stop ≡ CaseStop.TooLong → result.status ≢ Status.NoMemory }
+    ensures starves { WantedMemory stop → result.status ≡ Status.NoMemory }
+    ensures silent { WantedMemory stop → IsSilent result.status (O.taken output.old) (O.taken output.new) }
     ensures refused { result.status ≢ Status.Done }
     ensures read { result.status ≢ Status.ReadFault }
     ensures counted { result.status ≡ Status.WriteFault → Rose (O.write_faults output.old) (O.write_faults output.new) }
@@ -60,14 +75,18 @@ pub(crate) fn refuse<O: Sink>(alloc: Global, output: &mut O, stop: CaseStop) -> 
     ensures never_falls { O.write_faults output.old ≤ O.write_faults output.new }
 {
     match stop {
-        CaseStop::NoMemory => silent(Status::NoMemory),
-        CaseStop::TooLong => say(output, b"refused 1 too-long\n", Status::Refused),
+        AcceptStop::Case {
+            stop: CaseStop::NoMemory,
+        } => silent(Status::NoMemory),
+        AcceptStop::Policy {
+            stop: PolicyStop::NoMemory,
+        } => silent(Status::NoMemory),
         stop => refuse_with(alloc, output, stop),
     }
 }
 
 // Tells a refusal other than want of memory, by a line that is put together.
-fn refuse_with<O: Sink>(alloc: Global, output: &mut O, stop: CaseStop) -> Answer
+fn refuse_with<O: Sink>(alloc: Global, output: &mut O, stop: AcceptStop) -> Answer
     ensures closed { result.closed ≡ None }
     ensures world { result.world ≡ None }
     ensures wrote { IsSilent result.status (O.taken output.old) (O.taken output.new)

@@ -8,6 +8,7 @@ ghost use Rattle.dcr_journal.specs.Run.{after, marks_at, IsLegal};
 ghost use Rattle.dcr_turn.specs.Pushing.{EndsWithoutFault};
 ghost use Rattle.dcr_cell.specs.Stored.{MayBegin};
 ghost use Rattle.dcr_json.specs.Built.{case_of, IsCase};
+ghost use Rattle.dcr_roles.specs.Accepted.{IsAccepted};
 ghost use Rattle.dcr_report.specs.Report.{report_text};
 ghost use Rattle.dcr_app.specs.Answers.{WroteReport};
 ghost use Rattle.dcr_app.specs.Command.{AreSessions, AreWorkers, IsWay};
@@ -24,6 +25,7 @@ use dcr_engine::{CaseServed, CaseUnserved, run_case, serve_case};
 use dcr_journal::{Closed, Outcome};
 use dcr_json::Case;
 use dcr_report::{ReportStop, write_report};
+use dcr_roles::Accepted;
 use dcr_tape::{Store, TapeCause, TapeEntry};
 use std::alloc::Global;
 use std::sync::Wait;
@@ -43,7 +45,7 @@ pub(crate) fn run_over<
     rt: &R,
     alloc: Global,
     way: Way,
-    case: &Case,
+    accepted: &Accepted,
     store: Store<D>,
     old: &[TapeEntry],
     output: &mut O,
@@ -51,13 +53,13 @@ pub(crate) fn run_over<
     gate: G,
 ) -> End<B, D>
     requires way { IsWay way }
-    requires case { IsCase case.now }
+    requires accepted { IsAccepted accepted.now }
     requires few_old { length old.now ≤ 1000000 }
     requires begins { MayBegin D.view old.now store }
     ensures over { EndsOver D.view D.faults (told_by (doors_of B.links B.is_shut B.faults B.Link.left B.Link.taken B.Link.Rest.unread B.Link.Rest.sent
         B.Link.Rest.failed_reads B.Link.Rest.failed_writes)
         door result.door result.ends.items way)
-        (case_of case.now) old.now store result.disk (O.taken output.old) (O.taken output.new)
+        (case_of accepted.now.case) accepted.now.policy old.now store result.disk (O.taken output.old) (O.taken output.new)
         result.status result.closed }
     ensures door { Leaves (doors_of B.links B.is_shut B.faults B.Link.left B.Link.taken B.Link.Rest.unread B.Link.Rest.sent
         B.Link.Rest.failed_reads B.Link.Rest.failed_writes)
@@ -65,17 +67,17 @@ pub(crate) fn run_over<
     ensures report { result.status ≡ Status.Done → WroteReport (O.taken output.old) (O.taken output.new) result.closed }
     ensures world { result.world ≡ None }
     ensures no_read_fault { result.status ≢ Status.ReadFault }
-    ensures accepted { result.status ≢ Status.Refused }
+    ensures unrefused { result.status ≢ Status.Refused }
     ensures counted { result.status ≡ Status.WriteFault → Rose (O.write_faults output.old) (O.write_faults output.new) }
     ensures no_write_fault { result.status ≢ Status.WriteFault → O.write_faults output.new ≡ O.write_faults output.old }
     ensures never_falls { O.write_faults output.old ≤ O.write_faults output.new }
 {
     match way {
         Way::Run { workers } => by_workers(
-            rt, alloc, workers, case, store, old, output, door, gate,
+            rt, alloc, workers, accepted, store, old, output, door, gate,
         ),
         Way::Serve { sessions, workers } => over_links(
-            rt, alloc, sessions, workers, case, store, old, output, door, gate,
+            rt, alloc, sessions, workers, accepted, store, old, output, door, gate,
         ),
     }
 }
@@ -91,7 +93,7 @@ fn by_workers<
     rt: &R,
     alloc: Global,
     workers: u32,
-    case: &Case,
+    accepted: &Accepted,
     store: Store<D>,
     old: &[TapeEntry],
     output: &mut O,
@@ -99,21 +101,22 @@ fn by_workers<
     gate: G,
 ) -> End<B, D>
     requires workers { AreWorkers workers }
-    requires case { IsCase case.now }
+    requires accepted { IsAccepted accepted.now }
     requires few_old { length old.now ≤ 1000000 }
     requires begins { MayBegin D.view old.now store }
     ensures over { EndsOver D.view D.faults (by_workers workers)
-        (case_of case.now) old.now store result.disk (O.taken output.old) (O.taken output.new)
+        (case_of accepted.now.case) accepted.now.policy old.now store result.disk (O.taken output.old) (O.taken output.new)
         result.status result.closed }
     ensures door { IsUnasked door result.door result.ends.items }
     ensures report { result.status ≡ Status.Done → WroteReport (O.taken output.old) (O.taken output.new) result.closed }
     ensures world { result.world ≡ None }
     ensures no_read_fault { result.status ≢ Status.ReadFault }
-    ensures accepted { result.status ≢ Status.Refused }
+    ensures unrefused { result.status ≢ Status.Refused }
     ensures counted { result.status ≡ Status.WriteFault → Rose (O.write_faults output.old) (O.write_faults output.new) }
     ensures no_write_fault { result.status ≢ Status.WriteFault → O.write_faults output.new ≡ O.write_faults output.old }
     ensures never_falls { O.write_faults output.old ≤ O.write_faults output.new }
 {
+    let case = &accepted.case;
     let ran = run_case(
         rt,
         alloc,
@@ -157,7 +160,7 @@ fn over_links<
     alloc: Global,
     sessions: u32,
     workers: u32,
-    case: &Case,
+    accepted: &Accepted,
     store: Store<D>,
     old: &[TapeEntry],
     output: &mut O,
@@ -166,13 +169,13 @@ fn over_links<
 ) -> End<B, D>
     requires sessions { AreSessions sessions }
     requires workers { AreWorkers workers }
-    requires case { IsCase case.now }
+    requires accepted { IsAccepted accepted.now }
     requires few_old { length old.now ≤ 1000000 }
     requires begins { MayBegin D.view old.now store }
     ensures over { EndsOver D.view D.faults (over_links (doors_of B.links B.is_shut B.faults B.Link.left B.Link.taken B.Link.Rest.unread B.Link.Rest.sent
         B.Link.Rest.failed_reads B.Link.Rest.failed_writes)
         door result.door sessions result.ends.items)
-        (case_of case.now) old.now store result.disk (O.taken output.old) (O.taken output.new)
+        (case_of accepted.now.case) accepted.now.policy old.now store result.disk (O.taken output.old) (O.taken output.new)
         result.status result.closed }
     ensures door { LeavesWith (doors_of B.links B.is_shut B.faults B.Link.left B.Link.taken B.Link.Rest.unread B.Link.Rest.sent
         B.Link.Rest.failed_reads B.Link.Rest.failed_writes)
@@ -180,16 +183,18 @@ fn over_links<
     ensures report { result.status ≡ Status.Done → WroteReport (O.taken output.old) (O.taken output.new) result.closed }
     ensures world { result.world ≡ None }
     ensures no_read_fault { result.status ≢ Status.ReadFault }
-    ensures accepted { result.status ≢ Status.Refused }
+    ensures unrefused { result.status ≢ Status.Refused }
     ensures counted { result.status ≡ Status.WriteFault → Rose (O.write_faults output.old) (O.write_faults output.new) }
     ensures no_write_fault { result.status ≢ Status.WriteFault → O.write_faults output.new ≡ O.write_faults output.old }
     ensures never_falls { O.write_faults output.old ≤ O.write_faults output.new }
 {
+    let case = &accepted.case;
     let served = serve_case(
         rt,
         alloc,
         &case.graph,
         &case.cover,
+        &accepted.policy,
         &case.opening,
         sessions,
         workers,

@@ -20,4 +20,4 @@ pub use making::{Parts, is_in_range, no_tape, opened, parts_of};
 pub use playing::{
     Beginning, Step, case_of, expect, expect_report, expect_valid, played, without_tape,
 };
-pub use texts::{HOSPITAL, HOSPITAL_STEPS, NO_SESSION, TWO_SITES};
+pub use texts::{GUARDED, HOSPITAL, HOSPITAL_STEPS, NO_SESSION, TWO_SITES};

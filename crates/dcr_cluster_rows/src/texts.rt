@@ -4,6 +4,10 @@
 pub const HOSPITAL: &str =
     r#"{"graph":{"events":[{"name":"pm"},{"name":"s"},{"name":"gm"},{"name":"dt"}],"relations":[["condition","pm","s"],["condition","s","gm"],["condition","s","dt"],["response","pm","s"],["response","pm","gm"],["response","dt","s"],["exclude","dt","gm"],["include","s","gm"]]},"cover":[{"site":"doctor","events":["pm","s"]},{"site":"nurse","events":["gm","dt"]}]}"#;
 
+/// The case of the doctor and the nurse, in which two events ask for a role, and of two sessions the first is a doctor's.
+pub const GUARDED: &str =
+    r#"{"version":"3","graph":{"events":[{"name":"pm","roles":["doc"]},{"name":"s"},{"name":"gm","roles":["nur"]},{"name":"dt"}],"relations":[["condition","pm","s"],["condition","s","gm"],["condition","s","dt"],["response","pm","s"],["response","pm","gm"],["response","dt","s"],["exclude","dt","gm"],["include","s","gm"]]},"cover":[{"site":"doctor","events":["pm","s"]},{"site":"nurse","events":["gm","dt"]}],"users":[{"user":"ann","roles":["doc"]}],"by":["ann"]}"#;
+
 /// What the report of the hospital's row has behind the lines of the case.
 #[cfg(test)]
 pub(crate) const HOSPITAL_REPORT: &str = "open executed - pending - included pm,s,gm,dt

@@ -8,7 +8,7 @@ use Rattle.dcr_journal.specs.Run.{calls_of}
 use Rattle.dcr_journal.specs.declared.call.Call.{Call}
 use Rattle.dcr_journal.specs.declared.call.Entry.{Entry}
 use Rattle.dcr_tape.specs.declared.tape.Store.{Store}
-use Rattle.dcr_link.specs.Replies.{Placed, asked_by, asked_in, call_of, calls_in, is_short, lines_met, most_lines, placed_of, whole_lines}
+use Rattle.dcr_link.specs.Replies.{Placed, Terms, asked_by, asked_in, call_asked, call_of, calls_in, is_short, lines_met, most_lines, placed_of, whole_lines}
 use Rattle.dcr_link.specs.Serving.{EndsBy, Served, calls_met}
 use Rattle.dcr_link.specs.declared.end.WorkCause.{WorkCause}
 use Rattle.dcr_link.specs.declared.end.WorkCause.TheVariants.{Ended}
@@ -33,13 +33,13 @@ fronts h m xs ys rest is within =
     sym (take-append-le m (filter_map h ys) (filter_map h rest) within) ∙ ap (take m) (sym (filter_map-append h ys rest) ∙ ap (filter_map h) is)
 
 -- a beginning of what lines ask for begins what all of them ask for
-asked_first : (sites atoms : List (List ℕ)) (asked : List ℕ) (m : ℕ) → m ≤ length (calls_in (asked_in sites atoms (lines_met asked)))
-    → take m (calls_in (asked_in sites atoms (lines_met asked))) ≡ take m (calls_asked sites atoms asked)
-asked_first sites atoms asked m within =
+asked_first : (terms : Terms) (k : ℕ) (asked : List ℕ) (m : ℕ) → m ≤ length (calls_in (asked_in terms k (lines_met asked)))
+    → take m (calls_in (asked_in terms k (lines_met asked))) ≡ take m (calls_asked terms k asked)
+asked_first terms k asked m within =
     let met = lines_met asked in let all = whole_lines asked in
     let cut = front_of most_lines (prefix_len is_short all) all in
-    let same : asked_in sites atoms met ++ asked_in sites atoms cut.0 ≡ asked_in sites atoms all = sym (map-append (asked_by sites atoms) met cut.0) ∙ ap (asked_in sites atoms) cut.1 in
-    fronts (λ (call : Option Call). call) m (asked_in sites atoms all) (asked_in sites atoms met) (asked_in sites atoms cut.0) same within
+    let same : asked_in terms k met ++ asked_in terms k cut.0 ≡ asked_in terms k all = sym (map-append (asked_by terms k) met cut.0) ∙ ap (asked_in terms k) cut.1 in
+    fronts call_asked m (asked_in terms k all) (asked_in terms k met) (asked_in terms k cut.0) same within
 
 -- the calls of a session, with their places or without
 by_session : (b : Bool) (session n : ℕ) (entry : Entry) (J : List Entry) → map call_of (filter (λ (placed : Placed). eqb placed.1.session session) (enumerate_from (n + 1) J)) ≡ calls_of session J
@@ -62,28 +62,28 @@ whole_taken xs = take_all (length xs) xs (omega arith)
 one_of : {X : Type 0} (x y : X) → Some x ≡ Some y → x ≡ y
 one_of x y is = cc
 
-module _ {D L R : Type 0} (tells : Tells L R) (first : Option (Store D)) (capacity : ℕ) (sites atoms : List (List ℕ)) (J : List Entry) (k : ℕ) where
+module _ {D L R : Type 0} (tells : Tells L R) (first : Option (Store D)) (capacity : ℕ) (terms : Terms) (J : List Entry) (k : ℕ) where
   abbrev pub mine : List Placed
   mine = placed_of k J
 
   -- what a session over a link that told these bytes has called
-  asked_by_served : (asked written : List ℕ) (failed : Type 0) (end : WorkEnd) → Served first capacity sites atoms asked (new_pass k) (pass_in J k) written failed end
-      → (calls_of k J ≡ take end.calls (calls_asked sites atoms asked)) × (end.cause ≡ Ended → calls_of k J ≡ calls_asked sites atoms asked)
+  asked_by_served : (asked written : List ℕ) (failed : Type 0) (end : WorkEnd) → Served first capacity terms asked (new_pass k) (pass_in J k) written failed end
+      → (calls_of k J ≡ take end.calls (calls_asked terms k asked)) × (end.cause ≡ Ended → calls_of k J ≡ calls_asked terms k asked)
   asked_by_served asked written failed end it =
-      let met : List Call = calls_met first capacity sites atoms asked (new_pass k) (pass_in J k) written in
+      let met : List Call = calls_met first capacity terms asked (new_pass k) (pass_in J k) written in
       let placed : map call_of mine ≡ calls_of k J = calls_placed k 0 J in
       let many : length (map call_of mine) ≡ end.calls = length-map mine call_of ∙ sym it.calls in
       let begins : calls_of k J ≡ take end.calls met = sym placed ∙ it.in_order in
       let within : end.calls ≤ length met = within_all end.calls met (map call_of mine) many it.in_order in (
-        begins ∙ asked_first sites atoms asked end.calls within,
+        begins ∙ asked_first terms k asked end.calls within,
         λ ended.
-            let ends : EndsBy first capacity sites atoms asked (new_pass k) (pass_in J k) written failed Ended =
-            subst (λ (cause : WorkCause). EndsBy first capacity sites atoms asked (new_pass k) (pass_in J k) written failed cause) ended it.ends in
+            let ends : EndsBy first capacity terms asked (new_pass k) (pass_in J k) written failed Ended =
+            subst (λ (cause : WorkCause). EndsBy first capacity terms asked (new_pass k) (pass_in J k) written failed cause) ended it.ends in
             let all : end.calls ≡ length met = it.calls ∙ ends.1 in
-            begins ∙ ap (λ (n : ℕ). take n met) all ∙ whole_taken met ∙ ap (λ (lines : List (List ℕ)). calls_in (asked_in sites atoms lines)) ends.0,
+            begins ∙ ap (λ (n : ℕ). take n met) all ∙ whole_taken met ∙ ap (λ (lines : List (List ℕ)). calls_in (asked_in terms k lines)) ends.0,
       )
 
-  pub asked_of : (links : Option (List L)) (end : LinkEnd L R) → IsServedOf tells first capacity sites atoms links (pass_in J k) end → HasAsked tells sites atoms links k (calls_of k J) end
+  pub asked_of : (links : Option (List L)) (end : LinkEnd L R) → IsServedOf tells first capacity terms links (pass_in J k) end → HasAsked tells terms links k (calls_of k J) end
   asked_of links end it = λ all link asked had told there left taken.
       let number : slice_get all k ≡ Some it.link = subst (λ (l : Option (List L)). HasNumber l k it.link) told it.number in
       let same : it.link ≡ link = one_of it.link link (sym number ∙ there) in

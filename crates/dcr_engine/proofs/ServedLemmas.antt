@@ -16,6 +16,7 @@ use Rattle.dcr_turn.specs.PassValue.{HasMadeAll, PassValue, new_passes}
 use Rattle.dcr_turn.specs.TurnId.{TurnId}
 use Rattle.dcr_cell.specs.ClusterId.{ClusterId, IsNamed, begun}
 use Rattle.dcr_cluster.specs.Closing.{IsEnd}
+use Rattle.dcr_link.specs.Replies.{Terms}
 use Rattle.dcr_serve.specs.Left.{numbers_from}
 use Rattle.dcr_serving.specs.History.{pass_in}
 use Rattle.dcr_serving.specs.Serving.{AreServed, IsServedOf, Tells, new_pass}
@@ -50,7 +51,7 @@ some_made s (entry ∷ H) (suc i) d within is =
     let more = some_made s H i d (omega (arith, within)) is in
     omega (arith, made, more)
 
-module _ {D L R : Type 0} (view : D → DiskView) (faults : D → ℕ) (tells : Tells L R) (c : ClusterId) (turn : TurnId) (first : Option (Store D)) (begun_with : Store D) (capacity : ℕ) (sites atoms : List (List ℕ))
+module _ {D L R : Type 0} (view : D → DiskView) (faults : D → ℕ) (tells : Tells L R) (c : ClusterId) (turn : TurnId) (first : Option (Store D)) (begun_with : Store D) (capacity : ℕ) (terms : Terms)
     (links : Option (List L)) (passes : List PassValue) (ends : List (LinkEnd L R)) (closed : Closed) (store : Store D) where
   abbrev pub Pair : Type 0
   Pair = PassValue × LinkEnd L R
@@ -92,14 +93,14 @@ module _ {D L R : Type 0} (view : D → DiskView) (faults : D → ℕ) (tells : 
       let all : HasMadeAll (new s) H = subst (λ (pass : PassValue). HasMadeAll pass H) here (made s (new s) inside) in
       sym all.made
 
-  pub served : IsNamed c turn → first ≡ Some begun_with → capacity ≡ most_served → length H ≤ 200000 → AreServed tells first capacity sites atoms links turn.sessions passes ends
-      → IsEnd view faults c turn first capacity passes closed store → HasServed view faults tells c begun_with sites atoms links turn.sessions ends closed store
+  pub served : IsNamed c turn → first ≡ Some begun_with → capacity ≡ most_served → length H ≤ 200000 → AreServed tells first capacity terms links turn.sessions passes ends
+      → IsEnd view faults c turn first capacity passes closed store → HasServed view faults tells c begun_with terms links turn.sessions ends closed store
   served named is most few were end = record {
     whole = whole_of view faults c turn first begun_with capacity passes closed store named is end few;
     sessions_served = record {
       most = subst (λ (n : ℕ). n ≤ turn.sessions) (sym ends_many) were.within;
       each = in_history;
-      calls = λ k link_end there. asked_of tells (Some begun_with) most_served sites atoms H k links link_end (in_history k link_end there);
+      calls = λ k link_end there. asked_of tells (Some begun_with) most_served terms H k links link_end (in_history k link_end there);
       no_other = λ i d within.
           let below = end.sessions i d within in
           elim (cases_lt (slice_index_or H i d).session (length were.served)) [
@@ -112,17 +113,17 @@ module _ {D L R : Type 0} (view : D → DiskView) (faults : D → ℕ) (tells : 
       ends_many : length ends ≡ length were.served
       ends_many = ap (λ (l : List (LinkEnd L R)). length l) were.ends ∙ length-map were.served (λ (one : Pair). one.1)
 
-      in_history : (k : ℕ) (link_end : LinkEnd L R) → slice_get ends k ≡ Some link_end → IsServedOf tells (Some begun_with) most_served sites atoms links (pass_in H k) link_end
+      in_history : (k : ℕ) (link_end : LinkEnd L R) → slice_get ends k ≡ Some link_end → IsServedOf tells (Some begun_with) most_served terms links (pass_in H k) link_end
       in_history k link_end there =
           let found = mapped_at (λ (one : Pair). one.1) were.served k link_end (subst (λ (l : List (LinkEnd L R)). slice_get l k ≡ Some link_end) were.ends there) in
           let one : Pair = found.0 in
           let number : one.0.session ≡ k = numbered_at (λ (o : Pair). o.0.session) were.served k one were.in_order found.1 in
           let made : HasMadeAll one.0 H = made_of end.made were.served (drop (length were.served) (new_passes turn.sessions)) were.passes k one found.1 in
-          let over : IsServedOf tells first capacity sites atoms links one.0 one.1 =
-          subst (λ (o : Pair). IsServedOf tells first capacity sites atoms links o.0 o.1) (get_or_from_slice_get were.served k one one found.1) (were.each k one (slice_get_within were.served k one found.1)) in
-          let inside : IsServedOf tells first capacity sites atoms links (pass_in H one.0.session) one.1 =
-          session_in tells c.rules c.owned (begun c) first capacity sites atoms links one.0 one.1 H made end.legal (subst (λ (n : ℕ). length H ≤ n) (sym most) few) over in
-          subst (λ (f : Option (Store D)). IsServedOf tells f most_served sites atoms links (pass_in H k) link_end) is
-          (subst (λ (n : ℕ). IsServedOf tells first n sites atoms links (pass_in H k) link_end) most
-          (subst (λ (s : ℕ). IsServedOf tells first capacity sites atoms links (pass_in H s) link_end) number
-          (subst (λ (e : LinkEnd L R). IsServedOf tells first capacity sites atoms links (pass_in H one.0.session) e) found.2 inside)))
+          let over : IsServedOf tells first capacity terms links one.0 one.1 =
+          subst (λ (o : Pair). IsServedOf tells first capacity terms links o.0 o.1) (get_or_from_slice_get were.served k one one found.1) (were.each k one (slice_get_within were.served k one found.1)) in
+          let inside : IsServedOf tells first capacity terms links (pass_in H one.0.session) one.1 =
+          session_in tells c.rules c.owned (begun c) first capacity terms links one.0 one.1 H made end.legal (subst (λ (n : ℕ). length H ≤ n) (sym most) few) over in
+          subst (λ (f : Option (Store D)). IsServedOf tells f most_served terms links (pass_in H k) link_end) is
+          (subst (λ (n : ℕ). IsServedOf tells first n terms links (pass_in H k) link_end) most
+          (subst (λ (s : ℕ). IsServedOf tells first capacity terms links (pass_in H s) link_end) number
+          (subst (λ (e : LinkEnd L R). IsServedOf tells first capacity terms links (pass_in H one.0.session) e) found.2 inside)))

@@ -6,6 +6,7 @@ ghost use Rattle.dcr_site.specs.Together.{AllStand};
 ghost use Rattle.dcr_cell.specs.ClusterId.{IsNamed};
 ghost use Rattle.dcr_cell.specs.Stored.{MayBegin};
 ghost use Rattle.dcr_cluster.specs.Opening.{ArePossible, Refused};
+ghost use Rattle.dcr_link.specs.Replies.{terms_of};
 ghost use Rattle.dcr_serving.specs.Serving.{DoorEnds};
 ghost use Rattle.dcr_engine.specs.Ran.{cluster_of};
 ghost use Rattle.dcr_engine.specs.Served.{HasServed, most_served};
@@ -15,6 +16,7 @@ use dcr_base::{Disk, Door, Gate, Link};
 use dcr_cell::StoreName;
 use dcr_cluster::{Cluster, ClusterBlank, Finished, OpenRefused};
 use dcr_graph::{Graph, Marking};
+use dcr_policy::Policy;
 use dcr_proj::Cover;
 use dcr_serving::{LinkEnd, ServeEnd, serve_sessions};
 use dcr_site::Site;
@@ -65,6 +67,7 @@ pub fn serve_case<
     alloc: Global,
     graph: &Graph,
     cover: &Cover,
+    policy: &Policy,
     opening: &Marking,
     sessions: u32,
     workers: u32,
@@ -73,6 +76,7 @@ pub fn serve_case<
     gate: G,
     door: B,
 ) -> Result<CaseServed<D, B>, CaseUnserved<D, B>>
+    requires policy { length policy.now.atoms ≡ length graph.now.names }
     requires rooms { All (λ set. length set ≡ length graph.now.names) cover.now.owned }
     requires opening { HasRoom (length graph.now.names) opening.now }
     requires most_sessions { sessions ≤ 1024 }
@@ -87,7 +91,7 @@ pub fn serve_case<
       failed_reads = B.Link.Rest.failed_reads;
       failed_writes = B.Link.Rest.failed_writes;
     })
-        (cluster_of graph.now cover.now opening.now old.now) store cover.now.names graph.now.names (B.links door) sessions
+        (cluster_of graph.now cover.now opening.now old.now) store (terms_of cover.now.names graph.now.names policy.now) (B.links door) sessions
         served.ends.items served.finished.closed served.finished.store) }
     ensures door { IfOk result (λ served. DoorEnds B.links B.is_shut B.faults door served.door sessions served.ends.items
         served.door_failed served.no_memory) }
@@ -103,7 +107,7 @@ pub fn serve_case<
         });
     };
     in_cluster::<D, G, Brand, B, R>(
-        rt, alloc, graph, cover, opening, blank, sites, workers, store, old, gate, door,
+        rt, alloc, graph, cover, policy, opening, blank, sites, workers, store, old, gate, door,
     )
 }
 
@@ -119,6 +123,7 @@ fn in_cluster<
     alloc: Global,
     graph: &Graph,
     cover: &Cover,
+    policy: &Policy,
     opening: &Marking,
     blank: ClusterBlank,
     sites: Vec<Site>,
@@ -129,6 +134,7 @@ fn in_cluster<
     door: B,
 ) -> Result<CaseServed<D, B>, CaseUnserved<D, B>>
     requires cluster { N.cluster ≡ cluster_of graph.now cover.now opening.now old.now }
+    requires policy { length policy.now.atoms ≡ N.cluster.rules.atoms }
     requires named { IsNamed N.cluster N.turn }
     requires turn { blank ≡ N.turn }
     requires capacity { N.capacity ≡ most_served }
@@ -144,7 +150,7 @@ fn in_cluster<
       failed_reads = B.Link.Rest.failed_reads;
       failed_writes = B.Link.Rest.failed_writes;
     })
-        N.cluster store cover.now.names graph.now.names (B.links door) N.turn.sessions
+        N.cluster store (terms_of cover.now.names graph.now.names policy.now) (B.links door) N.turn.sessions
         served.ends.items served.finished.closed served.finished.store) }
     ensures door { IfOk result (λ served. DoorEnds B.links B.is_shut B.faults door served.door N.turn.sessions served.ends.items
         served.door_failed served.no_memory) }
@@ -168,7 +174,9 @@ fn in_cluster<
         Ok(opened) => opened,
         Err(refused) => return Err(CaseUnserved { refused, door }),
     };
-    let end = serve_sessions(rt, alloc, &cluster, passes, graph, cover, door, workers);
+    let end = serve_sessions(
+        rt, alloc, &cluster, passes, graph, cover, policy, door, workers,
+    );
     let ServeEnd {
         passes,
         door,

@@ -32,7 +32,7 @@ use Rattle.dcr_cover.specs.declared.text.CoverStop.TheVariants as cover
 use Rattle.dcr_cover.proofs.RefusalLemmas.{refuses_name, name_refused, refuses_text, text_refused, uncovered_told, told_uncovered_from, cover_from_told, told_from_cover}
 use Rattle.dcr_journal.specs.declared.call.Call.{Call}
 use Rattle.dcr_reading.specs.Accepted.{atom_names}
-use Rattle.dcr_json.specs.Case.{value_in, case_in}
+use Rattle.dcr_json.specs.Case.{value_in, file_in, case_in}
 use Rattle.dcr_json.specs.Judged.{Spelled, name_at, by_clash, by_cover, unclashed, owners_in, sessions_told, case_told}
 use Rattle.dcr_json.specs.Refusing.{found_or, lifted, stop_of}
 use Rattle.dcr_json.specs.Refusals.{SpellsJson, Writes, HasNodes, IsUnclashed, sites_of, HasCover, Comes, SpellsCase, RefusalsAreTheFormats, CasesAreTheFormats, OneOfTheTwo}
@@ -72,9 +72,16 @@ from_cover w nodes owners = next_stage (λ sessions. Ok (spelled_by nodes owners
 abbrev from_unclashed : Written → Nodes → Result Spelled CaseStop
 from_unclashed w nodes = next_stage (from_cover w nodes) (owners_in nodes.nested w.sites)
 
+-- one stage behind another
+in_turn : {A B C : Type 0} (r : Result A CaseStop) (f : A → Result B CaseStop) (g : B → Result C CaseStop) → next_stage g (next_stage f r) ≡ next_stage (λ x. next_stage g (f x)) r
+in_turn (Ok x) f g = refl
+in_turn (Err stop) f g = refl
+
 bytes_so : (bytes : List ℕ) (b : Bool) → nat_le (length bytes) 16777216 ≡ b → case_in bytes ≡ next_stage from_text (cond b (Ok bytes) (Err TooLong))
-unfolding case_in
-bytes_so bytes b e = ap (λ c. next_stage from_text (cond c (Ok bytes) (Err TooLong))) e
+unfolding case_in file_in
+bytes_so bytes b e =
+    in_turn (cond (nat_le (length bytes) 16777216) (Ok bytes) (Err TooLong)) (λ text. found_or NotJson (json_in text)) value_in
+    ∙ ap (λ c. next_stage from_text (cond c (Ok bytes) (Err TooLong))) e
 
 text_so : (bytes : List ℕ) → length bytes ≤ 16777216 → case_in bytes ≡ from_text bytes
 text_so bytes l = bytes_so bytes true (few bytes l)

@@ -23,9 +23,14 @@ value_in d = do
   nodes ← lifted (nodes_in written)
   case_told written nodes
 
+-- the JSON value that the bytes are
+unfoldable pub file_in : List ℕ → Result Data CaseStop
+file_in bytes = do
+  text ← within bytes
+  found_or NotJson (json_in text)
+
 -- the case, or the first refusal
 unfoldable pub case_in : List ℕ → Result Spelled CaseStop
 case_in bytes = do
-  text ← within bytes
-  value ← found_or NotJson (json_in text)
+  value ← file_in bytes
   value_in value

@@ -17,6 +17,6 @@ pub use dcr_canon::{cover_text, graph_text};
 pub use dcr_reading::{read_cover_text, read_graph_text};
 pub use dcr_shape::{LimitKind, Part};
 pub use laws::{no_bytes_want_memory, opening_is_written, when_each_refusal_comes};
-pub use read::read_case;
+pub use read::{read_case, read_file, read_value};
 pub use session_list::SessionList;
 pub use text::case_text;

@@ -3,7 +3,7 @@ ghost use Rattle.serde_json.specs.View.{view};
 ghost use Rattle.dcr_size.specs.Size.{size};
 ghost use Rattle.dcr_shape.specs.Case.{shape_in};
 ghost use Rattle.dcr_json.specs.Built.{case_of, IsCase};
-ghost use Rattle.dcr_json.specs.Case.{case_in, value_in};
+ghost use Rattle.dcr_json.specs.Case.{case_in, file_in, value_in};
 ghost use Rattle.dcr_json.specs.Refusing.{Says, stop_of};
 
 use crate::judge::judge;
@@ -26,19 +26,32 @@ pub fn read_case(alloc: Global, bytes: &[u8]) -> Result<Case, CaseStop>
     ensures fits { IfOk result IsCase }
     ensures too_long { 16777216 < length bytes.now → result ≡ Err CaseStop.TooLong }
 {
+    let value = read_file(alloc, bytes)?;
+    let case = read_value(alloc, &value)?;
+    Ok(case)
+}
+
+/// The JSON value that the bytes of a file are: its size is at most their number. `TooLong` and `NotJson` exactly where
+/// the definition refuses them so. `NoMemory` may come in the place of any answer but `TooLong`, which takes no memory.
+#[tactic(auto, unfolding(crate::specs::Case::file_in))]
+pub fn read_file(alloc: Global, bytes: &[u8]) -> Result<Value, CaseStop>
+    ensures says { Says view result (file_in bytes.now) }
+    ensures small { IfOk result (λ value. size (view value) ≤ 16777216) }
+    ensures too_long { 16777216 < length bytes.now → result ≡ Err CaseStop.TooLong }
+{
     if bytes.len() > MAX_BYTES {
         return Err(CaseStop::TooLong);
     }
     let Some(value) = read_json(alloc, bytes)? else {
         return Err(CaseStop::NotJson);
     };
-    let case = read_value(alloc, &value)?;
-    Ok(case)
+    Ok(value)
 }
 
-// The case that a value spells. Its shape is tried without memory.
+/// The case that the JSON value of a file spells, or the first refusal that holds of it, as the definition says it, both
+/// ways. Its shape is tried without memory; `NoMemory` may come in the place of any other answer.
 #[tactic(auto, unfolding(crate::specs::Case::value_in))]
-fn read_value(alloc: Global, value: &Value) -> Result<Case, CaseStop>
+pub fn read_value(alloc: Global, value: &Value) -> Result<Case, CaseStop>
     requires { size (view value.now) ≤ 16777216 }
     ensures says { Says case_of result (value_in (view value.now)) }
     ensures fits { IfOk result IsCase }

@@ -15,7 +15,7 @@ use Rattle.dcr_cell.specs.ClusterId.{ClusterId}
 use Rattle.dcr_link.specs.declared.end.WorkCause.{WorkCause}
 use Rattle.dcr_link.specs.declared.end.WorkCause.TheVariants.{Ended, LinkFault, LongLine, ManyLines, Halted, NoMemory}
 use Rattle.dcr_link.specs.declared.end.WorkEnd.{WorkEnd}
-use Rattle.dcr_link.specs.Replies.{Placed, asked_in, call_of, calls_in, is_short, lines_met, made_since, most_bytes, most_lines, placed_of, replies}
+use Rattle.dcr_link.specs.Replies.{Terms, Placed, asked_in, call_of, calls_in, is_short, lines_met, made_since, most_bytes, most_lines, placed_of, replies}
 use Rattle.dcr_link.specs.Serving.{EndsBy, Served, Serves}
 use Rattle.dcr_link.specs.TalkModel.{TalkValue}
 use Rattle.dcr_link.specs.Talking.{Going, GoesOn}
@@ -75,11 +75,11 @@ made_count before after same counted =
     length-drop before.made (placed_of before.session after.front)
     ∙ ap (λ (n : ℕ). n - before.made) (length-placed before.session 0 after.front ∙ ap (λ (s : ℕ). made_by s after.front) (sym same) ∙ sym counted)
 
-module _ {D : Type 0} (c : ClusterId) (first : Option (Store D)) (capacity : ℕ) (sites atoms : List (List ℕ)) where
+module _ {D : Type 0} (c : ClusterId) (first : Option (Store D)) (capacity : ℕ) (terms : Terms) where
   -- what came, and what was written
   abbrev pub Held : PassValue → PassValue → TalkValue → Option (List ℕ) → Option (List ℕ) → Option (List ℕ) → Option (List ℕ) → Type 0
   Held before pass talk left left_now taken taken_now =
-      (came written : List ℕ) × Consumes left left_now came × Appends taken taken_now written × Going c first capacity sites atoms before pass talk came written
+      (came written : List ℕ) × Consumes left left_now came × Appends taken taken_now written × Going c first capacity terms before pass talk came written
 
   pub held_none : (pass : PassValue) (talk : TalkValue) (left taken : Option (List ℕ)) → pass.made ≡ made_by pass.session pass.front → talk.lines ≡ 0
       → (talk.cutter.bytes ≡ []) × (talk.cutter.is_line ≡ false) × (talk.cutter.is_long ≡ false) → Held pass pass talk left left taken taken
@@ -111,8 +111,8 @@ module _ {D : Type 0} (c : ClusterId) (first : Option (Store D)) (capacity : ℕ
 
   module _ (before after : PassValue) where
     -- what is said where a fault may have come is said where another may
-    ends_wider : (asked written : List ℕ) (failed wider : Type 0) (cause : WorkCause) → (failed → wider) → EndsBy first capacity sites atoms asked before after written failed cause
-        → EndsBy first capacity sites atoms asked before after written wider cause
+    ends_wider : (asked written : List ℕ) (failed wider : Type 0) (cause : WorkCause) → (failed → wider) → EndsBy first capacity terms asked before after written failed cause
+        → EndsBy first capacity terms asked before after written wider cause
     ends_wider asked written failed wider Ended widen ends = ends
     ends_wider asked written failed wider LinkFault widen ends = widen ends
     ends_wider asked written failed wider LongLine widen (is, all, said) = (is, all, elim said [ inl whole ↦ inl whole | inr fault ↦ inr (widen fault) ])
@@ -120,8 +120,8 @@ module _ {D : Type 0} (c : ClusterId) (first : Option (Store D)) (capacity : ℕ
     ends_wider asked written failed wider (Halted halt) widen (fewer, shows, said) = (fewer, shows, elim said [ inl whole ↦ inl whole | inr fault ↦ inr (widen fault) ])
     ends_wider asked written failed wider NoMemory widen ends = tt
 
-    served_wider : (asked written : List ℕ) (failed wider : Type 0) (end : WorkEnd) → (failed → wider) → Served first capacity sites atoms asked before after written failed end
-        → Served first capacity sites atoms asked before after written wider end
+    served_wider : (asked written : List ℕ) (failed wider : Type 0) (end : WorkEnd) → (failed → wider) → Served first capacity terms asked before after written failed end
+        → Served first capacity terms asked before after written wider end
     served_wider asked written failed wider end widen served = record {
       calls = served.calls;
       in_order = served.in_order;
@@ -132,12 +132,12 @@ module _ {D : Type 0} (c : ClusterId) (first : Option (Store D)) (capacity : ℕ
 
     -- the session has ended, whatever the link had left
     pub serves_end : (left left_now taken taken_now : Option (List ℕ)) (came written : List ℕ) (failed wider : Type 0) (end : WorkEnd) → Consumes left left_now came → Appends taken taken_now written
-        → (failed → wider) → ((more : List ℕ) → Served first capacity sites atoms (came ++ more) before after written failed end)
-        → Serves first capacity sites atoms before after left taken taken_now wider end
+        → (failed → wider) → ((more : List ℕ) → Served first capacity terms (came ++ more) before after written failed end)
+        → Serves first capacity terms before after left taken taken_now wider end
     serves_end (Some asked) (Some more) (Some had) (Some has) came written failed wider end gone added widen served = λ all old is_all is_old. (
       written,
       ap (λ (l : List ℕ). Some l) (added ∙ ap (λ (l : List ℕ). l ++ written) (same_Some _ _ is_old)),
-      subst (λ (l : List ℕ). Served first capacity sites atoms l before after written wider end) (sym gone ∙ same_Some _ _ is_all)
+      subst (λ (l : List ℕ). Served first capacity terms l before after written wider end) (sym gone ∙ same_Some _ _ is_all)
           (served_wider (came ++ more) written failed wider end widen (served more)),
     )
     serves_end None left_now taken taken_now came written failed wider end gone added widen served = λ all old is_all is_old. absurd (none_some _ is_all)
@@ -147,11 +147,11 @@ module _ {D : Type 0} (c : ClusterId) (first : Option (Store D)) (capacity : ℕ
 
     -- the input has ended
     pub serves_input : (left left_now taken taken_now : Option (List ℕ)) (came written : List ℕ) (failed : Type 0) (end : WorkEnd) → Consumes left left_now came → IsAtEnd left_now → Appends taken taken_now written
-        → Served first capacity sites atoms came before after written failed end → Serves first capacity sites atoms before after left taken taken_now failed end
+        → Served first capacity terms came before after written failed end → Serves first capacity terms before after left taken taken_now failed end
     serves_input (Some asked) (Some more) (Some had) (Some has) came written failed end gone none added served = λ all old is_all is_old. (
       written,
       ap (λ (l : List ℕ). Some l) (added ∙ ap (λ (l : List ℕ). l ++ written) (same_Some _ _ is_old)),
-      subst (λ (l : List ℕ). Served first capacity sites atoms l before after written failed end)
+      subst (λ (l : List ℕ). Served first capacity terms l before after written failed end)
           (sym (append-nil came) ∙ ap (λ (l : List ℕ). came ++ l) (sym none) ∙ sym gone ∙ same_Some _ _ is_all) served,
     )
     serves_input None left_now taken taken_now came written failed end gone none added served = λ all old is_all is_old. absurd (none_some _ is_all)
@@ -162,24 +162,23 @@ module _ {D : Type 0} (c : ClusterId) (first : Option (Store D)) (capacity : ℕ
   -- ---- a piece more
 
   -- what the lines that end in a piece come to, from wherever the session stands
-  abbrev pub Goes : List (List ℕ) → List (List ℕ) → PassValue → PassValue → TalkValue → TalkValue → List ℕ → Option (List ℕ) → Option (List ℕ) → Type 0 → Option WorkCause → Type 0
-  Goes its_sites its_atoms pass after talk next piece taken then failed result =
-      (before : PassValue) (came written : List ℕ) → Going c first capacity its_sites its_atoms before pass talk came written
-      → (more : List ℕ) × Appends taken then more × GoesOn c first capacity its_sites its_atoms before after next (came ++ piece) (written ++ more) failed result
+  abbrev pub Goes : Terms → PassValue → PassValue → TalkValue → TalkValue → List ℕ → Option (List ℕ) → Option (List ℕ) → Type 0 → Option WorkCause → Type 0
+  Goes its_terms pass after talk next piece taken then failed result =
+      (before : PassValue) (came written : List ℕ) → Going c first capacity its_terms before pass talk came written
+      → (more : List ℕ) × Appends taken then more × GoesOn c first capacity its_terms before after next (came ++ piece) (written ++ more) failed result
 
-  pub goes_named : (sites_then atoms_then : List (List ℕ)) (pass after : PassValue) (talk next : TalkValue) (piece : List ℕ) (taken then : Option (List ℕ)) (failed : Type 0) (result : Option WorkCause)
-      → sites_then ≡ sites → atoms_then ≡ atoms → Goes sites_then atoms_then pass after talk next piece taken then failed result → Goes sites atoms pass after talk next piece taken then failed result
-  goes_named sites_then atoms_then pass after talk next piece taken then failed result same_sites same_atoms goes =
-      subst (λ (l : List (List ℕ)). Goes sites l pass after talk next piece taken then failed result) same_atoms
-      (subst (λ (l : List (List ℕ)). Goes l atoms_then pass after talk next piece taken then failed result) same_sites goes)
+  pub goes_named : (terms_then : Terms) (pass after : PassValue) (talk next : TalkValue) (piece : List ℕ) (taken then : Option (List ℕ)) (failed : Type 0) (result : Option WorkCause)
+      → terms_then ≡ terms → Goes terms_then pass after talk next piece taken then failed result → Goes terms pass after talk next piece taken then failed result
+  goes_named terms_then pass after talk next piece taken then failed result same_terms goes =
+      subst (λ (t : Terms). Goes t pass after talk next piece taken then failed result) same_terms goes
 
   module _ (before pass after : PassValue) (talk next : TalkValue) (piece : List ℕ) (left left_then left_read taken taken_then taken_read taken_now : Option (List ℕ)) (failed : Type 0) (result : Option WorkCause)
       (held : Held before pass talk left left_then taken taken_then) (consumed : Consumes left_then left_read piece) (same_taken : taken_read ≡ taken_then)
-      (goes : Goes sites atoms pass after talk next piece taken_read taken_now failed result) where
+      (goes : Goes terms pass after talk next piece taken_read taken_now failed result) where
     gone : Consumes left left_read (held.0 ++ piece)
     gone = consumed_then left left_then left_read held.0 piece held.2 consumed
 
-    on : (more : List ℕ) × Appends taken_read taken_now more × GoesOn c first capacity sites atoms before after next (held.0 ++ piece) (held.1 ++ more) failed result
+    on : (more : List ℕ) × Appends taken_read taken_now more × GoesOn c first capacity terms before after next (held.0 ++ piece) (held.1 ++ more) failed result
     on = goes before held.0 held.1 held.4
 
     added : Appends taken taken_now (held.1 ++ on.0)
@@ -191,14 +190,14 @@ module _ {D : Type 0} (c : ClusterId) (first : Option (Store D)) (capacity : ℕ
       held.1 ++ on.0,
       subst (λ (l : Option (List ℕ)). Consumes left l (held.0 ++ piece)) (sym same) gone,
       added,
-      subst (GoesOn c first capacity sites atoms before after next (held.0 ++ piece) (held.1 ++ on.0) failed) none on.2,
+      subst (GoesOn c first capacity terms before after next (held.0 ++ piece) (held.1 ++ on.0) failed) none on.2,
     )
 
     pub held_end : (cause : WorkCause) (wider : Type 0) → result ≡ Some cause → (failed → wider)
-        → Serves first capacity sites atoms before after left taken taken_now wider (record { calls = length (made_since before after); cause = cause })
+        → Serves first capacity terms before after left taken taken_now wider (record { calls = length (made_since before after); cause = cause })
     held_end cause wider some widen =
         serves_end before after left left_read taken taken_now (held.0 ++ piece) (held.1 ++ on.0) failed wider (record { calls = length (made_since before after); cause = cause }) gone added widen
-        (subst (GoesOn c first capacity sites atoms before after next (held.0 ++ piece) (held.1 ++ on.0) failed) some on.2)
+        (subst (GoesOn c first capacity terms before after next (held.0 ++ piece) (held.1 ++ on.0) failed) some on.2)
 
   module _ (before pass : PassValue) (talk : TalkValue) (left left_then left_now taken taken_then taken_now : Option (List ℕ)) (held : Held before pass talk left left_then taken taken_then)
       (same_taken : taken_now ≡ taken_then) where
@@ -207,23 +206,23 @@ module _ {D : Type 0} (c : ClusterId) (first : Option (Store D)) (capacity : ℕ
 
     -- a read has failed
     pub held_fault : (failed : Type 0) → Keeps left_then left_now → failed
-        → Serves first capacity sites atoms before pass left taken taken_now failed (record { calls = length (made_since before pass); cause = LinkFault })
+        → Serves first capacity terms before pass left taken taken_now failed (record { calls = length (made_since before pass); cause = LinkFault })
     held_fault failed keeps fault =
         serves_end before pass left left_now taken taken_now held.0 held.1 failed failed (record { calls = length (made_since before pass); cause = LinkFault })
         (consumed_kept left left_then left_now held.0 held.2 keeps) still_added (λ (f : failed). f)
-        (λ more. ends_read c first capacity sites atoms before pass talk held.0 held.1 more failed held.4 fault)
+        (λ more. ends_read c first capacity terms before pass talk held.0 held.1 more failed held.4 fault)
 
     -- the input has ended
     pub held_input : (failed : Type 0) → Consumes left_then left_now [] → IsAtEnd left_now
-        → Serves first capacity sites atoms before pass left taken taken_now failed (record { calls = length (made_since before pass); cause = Ended })
+        → Serves first capacity terms before pass left taken taken_now failed (record { calls = length (made_since before pass); cause = Ended })
     held_input failed consumed none =
         serves_input before pass left left_now taken taken_now held.0 held.1 failed (record { calls = length (made_since before pass); cause = Ended })
         (subst (Consumes left left_now) (append-nil held.0) (consumed_then left left_then left_now held.0 [] held.2 consumed)) none still_added
-        (ends_input c first capacity sites atoms before pass talk held.0 held.1 failed held.4)
+        (ends_input c first capacity terms before pass talk held.0 held.1 failed held.4)
 
   -- there was no memory for a session
   pub no_session : (pass : PassValue) (left taken : Option (List ℕ)) (failed : Type 0) → pass.made ≡ made_by pass.session pass.front
-      → Serves first capacity sites atoms pass pass left taken taken failed (record { calls = length (made_since pass pass); cause = NoMemory })
+      → Serves first capacity terms pass pass left taken taken failed (record { calls = length (made_since pass pass); cause = NoMemory })
   no_session pass left taken failed counted =
       let many : length (placed_of pass.session pass.front) ≡ pass.made = length-placed pass.session 0 pass.front ∙ sym counted in
       let nothing : made_since pass pass ≡ [] = drop_all pass.made (placed_of pass.session pass.front) (le_of _ _ many) in
@@ -232,8 +231,8 @@ module _ {D : Type 0} (c : ClusterId) (first : Option (Store D)) (capacity : ℕ
         is_taken ∙ ap (λ (l : List ℕ). Some l) (sym (append-nil had)),
         record {
           calls = refl;
-          in_order = ap (map call_of) nothing ∙ ap (λ (l : List Placed). take (length l) (calls_in (asked_in sites atoms (lines_met asked)))) (sym nothing);
-          rest = replies sites atoms asked (made_since pass pass) NoMemory;
+          in_order = ap (map call_of) nothing ∙ ap (λ (l : List Placed). take (length l) (calls_in (asked_in terms pass.session (lines_met asked)))) (sym nothing);
+          rest = replies terms pass.session asked (made_since pass pass) NoMemory;
           replied = refl;
           ends = tt;
         },

@@ -10,6 +10,7 @@ use Rattle.dcr_base.specs.declared.writing.WriteFault.{WriteFault}
 use Rattle.dcr_journal.specs.declared.call.Call.{Call}
 use Rattle.dcr_journal.specs.declared.call.Entry.{Entry}
 use Rattle.dcr_journal.specs.declared.call.Outcome.{Outcome}
+use Rattle.dcr_policy.specs.Deny.{deny}
 use Rattle.dcr_line.specs.Fits.{FitsEntry}
 use Rattle.dcr_line.specs.Line.{entry_text}
 use Rattle.dcr_set.specs.declared.id.NoMemory.{NoMemory as NoRoom}
@@ -22,7 +23,7 @@ use Rattle.dcr_cluster.specs.Calls.{AnsweredAfter, HaltedAfter}
 use Rattle.dcr_cluster.specs.declared.halt.Halt.{Halt}
 use Rattle.dcr_link.specs.declared.end.WorkCause.{WorkCause}
 use Rattle.dcr_link.specs.declared.end.WorkCause.TheVariants.{LinkFault, Halted, NoMemory}
-use Rattle.dcr_link.specs.Replies.{ended, halt_text}
+use Rattle.dcr_link.specs.Replies.{Asked, Terms, allowed_by, ended, halt_text, unless_denied}
 use Rattle.dcr_link.specs.TalkModel.{TalkValue}
 use Rattle.dcr_link.specs.Talking.{HasAnswered, HasLaid, HasReply, IsAnswered, IsHalted, IsLast, IsNamedBy, IsSent, MayLay, last_of}
 
@@ -34,6 +35,19 @@ last_there J entry =
 pub none_added : (known : Option (List ℕ)) → Appends known known []
 none_added None = tt
 none_added (Some bytes) = sym (append-nil bytes)
+
+-- ---- what a line asks for
+
+pub asked_bad : (terms : Terms) (session : ℕ) (call : Option Call) → call ≡ None → allowed_by terms session call ≡ Err (codes "bad-line")
+asked_bad terms session call is = ap (allowed_by terms session) is
+
+pub asked_denied : (terms : Terms) (session : ℕ) (asked : Option Call) (call : Call) (role : List ℕ) → asked ≡ Some call → deny terms.policy session call ≡ Some role
+    → allowed_by terms session asked ≡ Err (codes "denied " ++ role)
+asked_denied terms session asked call role is lacks = ap (allowed_by terms session) is ∙ ap (unless_denied call) lacks
+
+pub asked_allowed : (terms : Terms) (session : ℕ) (asked : Option Call) (call : Call) → asked ≡ Some call → deny terms.policy session call ≡ None
+    → allowed_by terms session asked ≡ Ok call
+asked_allowed terms session asked call is lacks = ap (allowed_by terms session) is ∙ ap (unless_denied call) lacks
 
 module _ {D : Type 0} (c : ClusterId) (first : Option (Store D)) (capacity : ℕ) where
   -- the entry that was made last is that of the call, at the end of what was seen
@@ -59,8 +73,8 @@ module _ {D : Type 0} (c : ClusterId) (first : Option (Store D)) (capacity : ℕ
       record {
         made = let m = answered.made in omega arith;
         seen = omega arith;
-        fits = subst (λ (entry : Entry). FitsEntry (length talk.sites) (length talk.atoms) entry) (sym (last_same J before after call outcome answered))
-            (subst (λ (n : ℕ). FitsEntry n (length talk.atoms) (entry_of before call outcome)) (sym named.sites)
+        fits = subst (λ (entry : Entry). FitsEntry (length talk.terms.sites) (length talk.terms.atoms) entry) (sym (last_same J before after call outcome answered))
+            (subst (λ (n : ℕ). FitsEntry n (length talk.terms.atoms) (entry_of before call outcome)) (sym named.sites)
             (subst (λ (n : ℕ). FitsEntry (length c.owned) n (entry_of before call outcome)) (sym named.atoms) fits));
       }
 
@@ -70,47 +84,47 @@ module _ {D : Type 0} (c : ClusterId) (first : Option (Store D)) (capacity : ℕ
   may_lay talk before after call (Ok outcome) named answered = last_fits talk answered.0 before after call outcome named answered.1
   may_lay talk before after call (Err halt) named answered = tt
 
-  module _ (sites atoms : List (List ℕ)) where
+  module _ (terms : Terms) where
     text_same : (J : List Entry) (before after : PassValue) (call : Call) (outcome : Outcome) → AnsweredAfter c first capacity J before after call outcome
-        → entry_text sites atoms (length after.front - 1) (last_of after call outcome) ≡ entry_text sites atoms (length J) (entry_of before call outcome)
+        → entry_text terms.sites terms.atoms (length after.front - 1) (last_of after call outcome) ≡ entry_text terms.sites terms.atoms (length J) (entry_of before call outcome)
     text_same J before after call outcome answered =
         let place = last_place J before after call outcome answered in
-        ap (λ (n : ℕ). entry_text sites atoms n (last_of after call outcome)) (let e : length after.front - 1 ≡ length J = omega arith in e)
-        ∙ ap (entry_text sites atoms (length J)) (last_same J before after call outcome answered)
+        ap (λ (n : ℕ). entry_text terms.sites terms.atoms n (last_of after call outcome)) (let e : length after.front - 1 ≡ length J = omega arith in e)
+        ∙ ap (entry_text terms.sites terms.atoms (length J)) (last_same J before after call outcome answered)
 
     called : (before after : PassValue) (call : Call) (answer : Result Outcome Halt) (reply : List ℕ) (result : Result (Option Halt) NoRoom)
         → IfOk answer (λ outcome. (J : List Entry) × AnsweredAfter c first capacity J before after call outcome)
         → IfErr answer (HaltedAfter c first capacity after.front before after)
-        → HasLaid sites atoms after call answer reply result → HasReply c first capacity sites atoms (Some call) before after reply result
+        → HasLaid terms after call answer reply result → HasReply c first capacity terms (Ok call) before after reply result
     called before after call (Ok outcome) reply (Ok None) answered halted laid = (
-      entry_text sites atoms (length answered.0) (entry_of before call outcome),
+      entry_text terms.sites terms.atoms (length answered.0) (entry_of before call outcome),
       (answered.0, outcome, answered.1, refl),
       laid ∙ ap ended (text_same answered.0 before after call outcome answered.1),
     )
     called before after call (Ok outcome) reply (Ok (Some halt)) answered halted laid = absurd laid
     called before after call (Ok outcome) reply (Err no_room) answered halted laid =
-        (entry_text sites atoms (length answered.0) (entry_of before call outcome), (answered.0, outcome, answered.1, refl))
+        (entry_text terms.sites terms.atoms (length answered.0) (entry_of before call outcome), (answered.0, outcome, answered.1, refl))
     called before after call (Err halt) reply (Ok None) answered halted laid = absurd laid
     called before after call (Err halt) reply (Ok (Some told)) answered halted laid = subst (HaltedAfter c first capacity after.front before after) (sym laid) halted
     called before after call (Err halt) reply (Err no_room) answered halted laid = absurd laid
 
     -- a call was made, and its reply laid ready
-    pub replied : (asked : Option Call) (before after : PassValue) (call : Call) (answer : Result Outcome Halt) (reply : List ℕ) (result : Result (Option Halt) NoRoom)
-        → asked ≡ Some call
+    pub replied : (asked : Asked) (before after : PassValue) (call : Call) (answer : Result Outcome Halt) (reply : List ℕ) (result : Result (Option Halt) NoRoom)
+        → asked ≡ Ok call
         → IfOk answer (λ outcome. (J : List Entry) × AnsweredAfter c first capacity J before after call outcome)
         → IfErr answer (HaltedAfter c first capacity after.front before after)
-        → HasLaid sites atoms after call answer reply result → HasReply c first capacity sites atoms asked before after reply result
+        → HasLaid terms after call answer reply result → HasReply c first capacity terms asked before after reply result
     replied asked before after call answer reply result is answered halted laid =
-        subst (λ (a : Option Call). HasReply c first capacity sites atoms a before after reply result) (sym is) (called before after call answer reply result answered halted laid)
+        subst (λ (a : Asked). HasReply c first capacity terms a before after reply result) (sym is) (called before after call answer reply result answered halted laid)
 
-    -- the line is no call
-    pub bad : (asked : Option Call) (pass : PassValue) → asked ≡ None → IsAnswered c first capacity sites atoms asked pass pass (codes "bad-line")
-    bad asked pass is = subst (λ (a : Option Call). IsAnswered c first capacity sites atoms a pass pass (codes "bad-line")) (sym is) (refl, refl)
+    -- no call is made for the line
+    pub unmade : (asked : Asked) (pass : PassValue) (text : List ℕ) → asked ≡ Err text → IsAnswered c first capacity terms asked pass pass text
+    unmade asked pass text is = subst (λ (a : Asked). IsAnswered c first capacity terms a pass pass text) (sym is) (refl, refl)
 
-    pub bad_unsaid : (asked : Option Call) (pass : PassValue) (reply : List ℕ) (result : Result (Option Halt) NoRoom) (P : NoRoom → Type 0)
-        → asked ≡ None → IsErrAnd result P → HasReply c first capacity sites atoms asked pass pass reply result
-    bad_unsaid asked pass reply (Ok told) P is err = absurd err
-    bad_unsaid asked pass reply (Err no_room) P is err = (codes "bad-line", bad asked pass is)
+    pub unmade_unsaid : (asked : Asked) (pass : PassValue) (text reply : List ℕ) (result : Result (Option Halt) NoRoom) (P : NoRoom → Type 0)
+        → asked ≡ Err text → IsErrAnd result P → HasReply c first capacity terms asked pass pass reply result
+    unmade_unsaid asked pass text reply (Ok told) P is err = absurd err
+    unmade_unsaid asked pass text reply (Err no_room) P is err = (text, unmade asked pass text is)
 
     -- ---- the reply is sent
 
@@ -122,27 +136,27 @@ module _ {D : Type 0} (c : ClusterId) (first : Option (Store D)) (capacity : ℕ
     }
 
     -- what is answered by one write: the bytes that it took, and what comes of the session
-    abbrev pub Spoken : Option Call → PassValue → PassValue → Option (List ℕ) → Option (List ℕ) → Type 0 → Option WorkCause → Type 0
+    abbrev pub Spoken : Asked → PassValue → PassValue → Option (List ℕ) → Option (List ℕ) → Type 0 → Option WorkCause → Type 0
     Spoken asked before after taken now failed result =
-        (written : List ℕ) × Appends taken now written × HasAnswered c first capacity sites atoms asked before after written failed result
+        (written : List ℕ) × Appends taken now written × HasAnswered c first capacity terms asked before after written failed result
 
-    pub spoken_whole : (asked : Option Call) (before after : PassValue) (taken now : Option (List ℕ)) (failed : Type 0) (reply : List ℕ) (told : Result (Option Halt) NoRoom) (result : Option WorkCause)
-        → told ≡ Ok None → result ≡ None → HasReply c first capacity sites atoms asked before after reply told → Appends taken now reply
+    pub spoken_whole : (asked : Asked) (before after : PassValue) (taken now : Option (List ℕ)) (failed : Type 0) (reply : List ℕ) (told : Result (Option Halt) NoRoom) (result : Option WorkCause)
+        → told ≡ Ok None → result ≡ None → HasReply c first capacity terms asked before after reply told → Appends taken now reply
         → Spoken asked before after taken now failed result
     spoken_whole asked before after taken now failed reply told result is_told is has added =
-        let replied_by : HasReply c first capacity sites atoms asked before after reply (Ok None) =
-        subst (HasReply c first capacity sites atoms asked before after reply) is_told has in
-        (reply, added, subst (HasAnswered c first capacity sites atoms asked before after reply failed) (sym is) (replied_by.0, replied_by.1, replied_by.2))
+        let replied_by : HasReply c first capacity terms asked before after reply (Ok None) =
+        subst (HasReply c first capacity terms asked before after reply) is_told has in
+        (reply, added, subst (HasAnswered c first capacity terms asked before after reply failed) (sym is) (replied_by.0, replied_by.1, replied_by.2))
 
-    pub spoken_part : (asked : Option Call) (before after : PassValue) (taken now : Option (List ℕ)) (failed : Type 0) (reply : List ℕ) (told : Result (Option Halt) NoRoom) (result : Option WorkCause) (n : ℕ)
-        → told ≡ Ok None → result ≡ Some LinkFault → HasReply c first capacity sites atoms asked before after reply told → Appends taken now (take n reply) → failed
+    pub spoken_part : (asked : Asked) (before after : PassValue) (taken now : Option (List ℕ)) (failed : Type 0) (reply : List ℕ) (told : Result (Option Halt) NoRoom) (result : Option WorkCause) (n : ℕ)
+        → told ≡ Ok None → result ≡ Some LinkFault → HasReply c first capacity terms asked before after reply told → Appends taken now (take n reply) → failed
         → Spoken asked before after taken now failed result
     spoken_part asked before after taken now failed reply told result n is_told is has added fault =
-        let replied_by : HasReply c first capacity sites atoms asked before after reply (Ok None) =
-        subst (HasReply c first capacity sites atoms asked before after reply) is_told has in (
+        let replied_by : HasReply c first capacity terms asked before after reply (Ok None) =
+        subst (HasReply c first capacity terms asked before after reply) is_told has in (
           take n reply,
           added,
-          subst (HasAnswered c first capacity sites atoms asked before after (take n reply) failed) (sym is)
+          subst (HasAnswered c first capacity terms asked before after (take n reply) failed) (sym is)
               (replied_by.0, replied_by.1, sent_part failed replied_by.0 reply n replied_by.2 fault, fault),
         )
 
@@ -161,22 +175,22 @@ module _ {D : Type 0} (c : ClusterId) (first : Option (Store D)) (capacity : ℕ
     said_last taken now failed text line (Ok done) is added = (line, added, record { rest = []; part = append-nil line ∙ is; whole = inl refl })
     said_last taken now failed text line (Err fault) is added = (take fault.written line, added.0, sent_part failed text line fault.written is added.1)
 
-    pub spoken_halt : (asked : Option Call) (before after : PassValue) (taken now : Option (List ℕ)) (failed : Type 0) (reply line : List ℕ) (told : Result (Option Halt) NoRoom) (result : Option WorkCause)
+    pub spoken_halt : (asked : Asked) (before after : PassValue) (taken now : Option (List ℕ)) (failed : Type 0) (reply line : List ℕ) (told : Result (Option Halt) NoRoom) (result : Option WorkCause)
         (halt : Halt) (said : Result (Unit {0}) WriteFault)
-        → told ≡ Ok (Some halt) → result ≡ Some (Halted halt) → HasReply c first capacity sites atoms asked before after reply told → line ≡ ended (halt_text halt) → SaidLast taken now failed line said
+        → told ≡ Ok (Some halt) → result ≡ Some (Halted halt) → HasReply c first capacity terms asked before after reply told → line ≡ ended (halt_text halt) → SaidLast taken now failed line said
         → Spoken asked before after taken now failed result
     spoken_halt asked before after taken now failed reply line told result halt said is_told is has is_line last =
-        let halted : IsHalted c first capacity sites atoms asked before after halt = subst (HasReply c first capacity sites atoms asked before after reply) is_told has in
+        let halted : IsHalted c first capacity terms asked before after halt = subst (HasReply c first capacity terms asked before after reply) is_told has in
         let sent = said_last taken now failed (halt_text halt) line said is_line last in
-        (sent.0, sent.1, subst (HasAnswered c first capacity sites atoms asked before after sent.0 failed) (sym is) (halted, sent.2))
+        (sent.0, sent.1, subst (HasAnswered c first capacity terms asked before after sent.0 failed) (sym is) (halted, sent.2))
 
-    pub spoken_none : (asked : Option Call) (before after : PassValue) (taken now : Option (List ℕ)) (failed : Type 0) (reply : List ℕ) (told : Result (Option Halt) NoRoom) (result : Option WorkCause) (no_room : NoRoom)
-        → told ≡ Err no_room → result ≡ Some NoMemory → HasReply c first capacity sites atoms asked before after reply told → now ≡ taken
+    pub spoken_none : (asked : Asked) (before after : PassValue) (taken now : Option (List ℕ)) (failed : Type 0) (reply : List ℕ) (told : Result (Option Halt) NoRoom) (result : Option WorkCause) (no_room : NoRoom)
+        → told ≡ Err no_room → result ≡ Some NoMemory → HasReply c first capacity terms asked before after reply told → now ≡ taken
         → Spoken asked before after taken now failed result
     spoken_none asked before after taken now failed reply told result no_room is_told is has same =
-        let unsaid : HasReply c first capacity sites atoms asked before after reply (Err no_room) =
-        subst (HasReply c first capacity sites atoms asked before after reply) is_told has in (
+        let unsaid : HasReply c first capacity terms asked before after reply (Err no_room) =
+        subst (HasReply c first capacity terms asked before after reply) is_told has in (
           [],
           subst (λ (k : Option (List ℕ)). Appends taken k []) (sym same) (none_added taken),
-          subst (HasAnswered c first capacity sites atoms asked before after [] failed) (sym is) (unsaid.0, unsaid.1, refl),
+          subst (HasAnswered c first capacity terms asked before after [] failed) (sym is) (unsaid.0, unsaid.1, refl),
         )

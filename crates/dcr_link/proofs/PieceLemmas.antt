@@ -13,7 +13,7 @@ use Rattle.dcr_turn.specs.PassValue.{PassValue}
 use Rattle.dcr_cell.specs.ClusterId.{ClusterId}
 use Rattle.dcr_link.specs.declared.end.WorkCause.{WorkCause}
 use Rattle.dcr_link.specs.declared.end.WorkCause.TheVariants.{LongLine, ManyLines}
-use Rattle.dcr_link.specs.Replies.{asked_by, ended, made_since, most_bytes, most_lines}
+use Rattle.dcr_link.specs.Replies.{Terms, asked_by, ended, made_since, most_bytes, most_lines}
 use Rattle.dcr_link.specs.Serving.{Served}
 use Rattle.dcr_link.specs.TalkModel.{TalkValue}
 use Rattle.dcr_link.specs.Talking.{CutsNext, Going, HasAnswered, HasEnded, bytes_spare}
@@ -79,19 +79,19 @@ spare_line talk next piece n cut less =
 pub spare_then : (old now next used n : ℕ) → now + used ≤ old → next + n ≤ now → next + (used + n) ≤ old
 spare_then old now next used n first more = omega arith
 
-module _ {D : Type 0} (c : ClusterId) (first : Option (Store D)) (capacity : ℕ) (sites atoms : List (List ℕ)) where
+module _ {D : Type 0} (c : ClusterId) (first : Option (Store D)) (capacity : ℕ) (terms : Terms) where
   -- all lines that ended in the front of the piece were answered
   abbrev pub StillGoing : PassValue → PassValue → TalkValue → List ℕ → List ℕ → Option (List ℕ) → Option (List ℕ) → Type 0
   StillGoing before pass talk came written had has =
-      (more : List ℕ) × Appends had has more × Going c first capacity sites atoms before pass talk came (written ++ more)
+      (more : List ℕ) × Appends had has more × Going c first capacity terms before pass talk came (written ++ more)
 
   module _ (before pass : PassValue) (talk : TalkValue) (piece came written : List ℕ) (had has : Option (List ℕ)) where
-    pub going_first : Going c first capacity sites atoms before pass talk came written → StillGoing before pass talk (came ++ take 0 piece) written had had
+    pub going_first : Going c first capacity terms before pass talk came written → StillGoing before pass talk (came ++ take 0 piece) written had had
     going_first going = (
       [],
       none_added had,
-      subst (λ (l : List ℕ). Going c first capacity sites atoms before pass talk l (written ++ [])) (sym (append-nil came))
-          (subst (Going c first capacity sites atoms before pass talk came) (sym (append-nil written)) going),
+      subst (λ (l : List ℕ). Going c first capacity terms before pass talk l (written ++ [])) (sym (append-nil came))
+          (subst (Going c first capacity terms before pass talk came) (sym (append-nil written)) going),
     )
 
     pub going_last : (used : ℕ) → used ≤ length piece → length piece ≤ used → StillGoing before pass talk (came ++ take used piece) written had has
@@ -102,28 +102,28 @@ module _ {D : Type 0} (c : ClusterId) (first : Option (Store D)) (capacity : ℕ
 
     -- an end, by what came before the piece and by the whole of it
     moved : (after : PassValue) (used : ℕ) (a b : List ℕ) (failed : Type 0) (cause : WorkCause) (more : List ℕ)
-        → Served first capacity sites atoms ((came ++ take used piece) ++ (drop used piece ++ more)) before after ((written ++ a) ++ b) failed (record { calls = length (made_since before after); cause = cause })
-        → Served first capacity sites atoms ((came ++ piece) ++ more) before after (written ++ (a ++ b)) failed (record { calls = length (made_since before after); cause = cause })
+        → Served first capacity terms ((came ++ take used piece) ++ (drop used piece ++ more)) before after ((written ++ a) ++ b) failed (record { calls = length (made_since before after); cause = cause })
+        → Served first capacity terms ((came ++ piece) ++ more) before after (written ++ (a ++ b)) failed (record { calls = length (made_since before after); cause = cause })
     moved after used a b failed cause more served =
-        subst (λ (l : List ℕ). Served first capacity sites atoms l before after (written ++ (a ++ b)) failed (record { calls = length (made_since before after); cause = cause }))
-        (rest_whole c first capacity sites atoms came piece more used ∙ sym (append_assoc came piece more))
-        (subst (λ (l : List ℕ). Served first capacity sites atoms ((came ++ take used piece) ++ (drop used piece ++ more)) before after l failed (record { calls = length (made_since before after); cause = cause }))
+        subst (λ (l : List ℕ). Served first capacity terms l before after (written ++ (a ++ b)) failed (record { calls = length (made_since before after); cause = cause }))
+        (rest_whole c first capacity terms came piece more used ∙ sym (append_assoc came piece more))
+        (subst (λ (l : List ℕ). Served first capacity terms ((came ++ take used piece) ++ (drop used piece ++ more)) before after l failed (record { calls = length (made_since before after); cause = cause }))
         (append_assoc written a b) served)
 
     -- no line more may be answered, and a byte is left
     pub end_many : (used : ℕ) (then : Option (List ℕ)) (failed : Type 0) (bytes : List ℕ) (said : Result (Unit {0}) WriteFault) → StillGoing before pass talk (came ++ take used piece) written had has
         → talk.lines ≡ most_lines → used < length piece → bytes ≡ ended (codes "many-lines")
         → OnOk said (Appends has then bytes) → IfErr said (λ (fault : WriteFault). Appends has then (take fault.written bytes)) → OnErr said failed
-        → (x : List ℕ) × Appends had then x × HasEnded c first capacity sites atoms before pass (came ++ piece) (written ++ x) failed ManyLines
+        → (x : List ℕ) × Appends had then x × HasEnded c first capacity terms before pass (came ++ piece) (written ++ x) failed ManyLines
     end_many used then failed bytes said going most left is all front fault =
-        let sent = said_last c first capacity sites atoms has then failed (codes "many-lines") bytes said is
-        (last_said c first capacity sites atoms has then failed bytes bytes said refl all front fault) in
+        let sent = said_last c first capacity terms has then failed (codes "many-lines") bytes said is
+        (last_said c first capacity terms has then failed bytes bytes said refl all front fault) in
         let some : drop used piece ≢ [] = λ nothing. absurd (let n = ap length nothing in let m = length-drop used piece in omega arith) in (
           going.0 ++ sent.0,
           added_then had has then going.0 sent.0 going.1 sent.1,
           λ more.
               moved pass used going.0 sent.0 failed ManyLines more
-              (ends_many c first capacity sites atoms before pass talk (drop used piece) (came ++ take used piece) (written ++ going.0) sent.0 failed going.2 most some sent.2 more),
+              (ends_many c first capacity terms before pass talk (drop used piece) (came ++ take used piece) (written ++ going.0) sent.0 failed going.2 most some sent.2 more),
         )
 
     -- the line has too many bytes
@@ -131,15 +131,15 @@ module _ {D : Type 0} (c : ClusterId) (first : Option (Store D)) (capacity : ℕ
         → StillGoing before pass talk (came ++ take used piece) written had has → CutsNext talk (drop used piece) n cut next → cut ≡ TooLong → talk.lines < most_lines
         → bytes ≡ ended (codes "long-line")
         → OnOk said (Appends has then bytes) → IfErr said (λ (fault : WriteFault). Appends has then (take fault.written bytes)) → OnErr said failed
-        → (x : List ℕ) × Appends had then x × HasEnded c first capacity sites atoms before pass (came ++ piece) (written ++ x) failed LongLine
+        → (x : List ℕ) × Appends had then x × HasEnded c first capacity terms before pass (came ++ piece) (written ++ x) failed LongLine
     end_long used n cut next then failed bytes said going cuts is_long spare is all front fault =
-        let sent = said_last c first capacity sites atoms has then failed (codes "long-line") bytes said is
-        (last_said c first capacity sites atoms has then failed bytes bytes said refl all front fault) in (
+        let sent = said_last c first capacity terms has then failed (codes "long-line") bytes said is
+        (last_said c first capacity terms has then failed bytes bytes said refl all front fault) in (
           going.0 ++ sent.0,
           added_then had has then going.0 sent.0 going.1 sent.1,
           λ more.
               moved pass used going.0 sent.0 failed LongLine more
-              (ends_long c first capacity sites atoms before pass talk next (drop used piece) (came ++ take used piece) (written ++ going.0) sent.0 n failed going.2 spare
+              (ends_long c first capacity terms before pass talk next (drop used piece) (came ++ take used piece) (written ++ going.0) sent.0 n failed going.2 spare
               (subst (λ (k : Cut). CutsNext talk (drop used piece) n k next) is_long cuts) sent.2 more),
         )
 
@@ -156,49 +156,49 @@ module _ {D : Type 0} (c : ClusterId) (first : Option (Store D)) (capacity : ℕ
           ap (λ (l : List ℕ). (came ++ take used piece) ++ l) (sym (ap (λ (k : ℕ). take k (drop used piece)) takes.used_is ∙ take_all (length (drop used piece)) (drop used piece) (omega arith))) ∙ front_more in (
             going.0,
             going.1,
-            subst (λ (l : List ℕ). Going c first capacity sites atoms before pass next l (written ++ going.0)) whole
-                (going_more c first capacity sites atoms before pass talk next (drop used piece) (came ++ take used piece) (written ++ going.0) n going.2 more),
+            subst (λ (l : List ℕ). Going c first capacity terms before pass next l (written ++ going.0)) whole
+                (going_more c first capacity terms before pass talk next (drop used piece) (came ++ take used piece) (written ++ going.0) n going.2 more),
           )
 
       module _ (is : cut ≡ Line) (spare : talk.lines < most_lines) (after : PassValue) (told : TalkValue) (then : Option (List ℕ)) (failed : Type 0) (result : Option WorkCause)
-          (answered : (sent : List ℕ) × Appends has then sent × HasAnswered c first capacity sites atoms (asked_by sites atoms next.cutter.bytes) pass after sent failed result) where
+          (answered : (sent : List ℕ) × Appends has then sent × HasAnswered c first capacity terms (asked_by terms before.session next.cutter.bytes) pass after sent failed result) where
         line_cut : CutsNext talk (drop used piece) n Line next
         line_cut = subst (λ (k : Cut). CutsNext talk (drop used piece) n k next) is cuts
 
         pub still_line : told.cutter ≡ next.cutter → told.lines ≡ next.lines → result ≡ None → StillGoing before after told (came ++ take (used + n) piece) written had then
         still_line same_cutter same_lines none =
-            let by : HasAnswered c first capacity sites atoms (asked_by sites atoms next.cutter.bytes) pass after answered.0 failed None =
-            subst (HasAnswered c first capacity sites atoms (asked_by sites atoms next.cutter.bytes) pass after answered.0 failed) none answered.2 in (
+            let by : HasAnswered c first capacity terms (asked_by terms before.session next.cutter.bytes) pass after answered.0 failed None =
+            subst (HasAnswered c first capacity terms (asked_by terms before.session next.cutter.bytes) pass after answered.0 failed) none answered.2 in (
               going.0 ++ answered.0,
               added_then had has then going.0 answered.0 going.1 answered.1,
-              subst (λ (l : List ℕ). Going c first capacity sites atoms before after told l (written ++ (going.0 ++ answered.0))) front_more
-                  (subst (Going c first capacity sites atoms before after told ((came ++ take used piece) ++ take n (drop used piece)))
+              subst (λ (l : List ℕ). Going c first capacity terms before after told l (written ++ (going.0 ++ answered.0))) front_more
+                  (subst (Going c first capacity terms before after told ((came ++ take used piece) ++ take n (drop used piece)))
                   (ap (λ (l : List ℕ). (written ++ going.0) ++ l) (sym by.2) ∙ append_assoc written going.0 answered.0)
-                  (going_line c first capacity sites atoms before pass after talk next (drop used piece) (came ++ take used piece) (written ++ going.0) n going.2 line_cut spare by.0 told same_cutter same_lines by.1)),
+                  (going_line c first capacity terms before pass after talk next (drop used piece) (came ++ take used piece) (written ++ going.0) n going.2 line_cut spare by.0 told same_cutter same_lines by.1)),
             )
 
         -- the session has ended with the line
         pub end_line : (cause : WorkCause) → result ≡ Some cause
-            → (x : List ℕ) × Appends had then x × HasEnded c first capacity sites atoms before after (came ++ piece) (written ++ x) failed cause
+            → (x : List ℕ) × Appends had then x × HasEnded c first capacity terms before after (came ++ piece) (written ++ x) failed cause
         end_line cause some =
-            let by : HasAnswered c first capacity sites atoms (asked_by sites atoms next.cutter.bytes) pass after answered.0 failed (Some cause) =
-            subst (HasAnswered c first capacity sites atoms (asked_by sites atoms next.cutter.bytes) pass after answered.0 failed) some answered.2 in (
+            let by : HasAnswered c first capacity terms (asked_by terms before.session next.cutter.bytes) pass after answered.0 failed (Some cause) =
+            subst (HasAnswered c first capacity terms (asked_by terms before.session next.cutter.bytes) pass after answered.0 failed) some answered.2 in (
               going.0 ++ answered.0,
               added_then had has then going.0 answered.0 going.1 answered.1,
               λ more.
                   moved after used going.0 answered.0 failed cause more
-                  (ends_line c first capacity sites atoms before pass after talk next (drop used piece) (came ++ take used piece) (written ++ going.0) answered.0 n failed _ cause going.2 line_cut spare refl by more),
+                  (ends_line c first capacity terms before pass after talk next (drop used piece) (came ++ take used piece) (written ++ going.0) answered.0 n failed _ cause going.2 line_cut spare refl by more),
             )
 
--- what was answered, by the names and the count from which the piece began
-pub answered_as : {D : Type 0} (c : ClusterId) (first : Option (Store D)) (capacity : ℕ) (sites atoms sites_then atoms_then : List (List ℕ)) (bytes : List ℕ) (pass after : PassValue)
-    (has then : Option (List ℕ)) (faults faults_then last : ℕ) (result : Option WorkCause) → sites_then ≡ sites → atoms_then ≡ atoms → faults_then ≡ faults
-    → (sent : List ℕ) × Appends has then sent × HasAnswered c first capacity sites_then atoms_then (asked_by sites_then atoms_then bytes) pass after sent (Rose faults_then last) result
-    → (sent : List ℕ) × Appends has then sent × HasAnswered c first capacity sites atoms (asked_by sites atoms bytes) pass after sent (Rose faults last) result
-answered_as c first capacity sites atoms sites_then atoms_then bytes pass after has then faults faults_then last result same_sites same_atoms same_faults (sent, added, answered) = (
+-- what was answered, by the terms, the session and the count from which the piece began
+pub answered_as : {D : Type 0} (c : ClusterId) (first : Option (Store D)) (capacity : ℕ) (terms terms_then : Terms) (session session_then : ℕ) (bytes : List ℕ) (pass after : PassValue)
+    (has then : Option (List ℕ)) (faults faults_then last : ℕ) (result : Option WorkCause) → terms_then ≡ terms → session_then ≡ session → faults_then ≡ faults
+    → (sent : List ℕ) × Appends has then sent × HasAnswered c first capacity terms_then (asked_by terms_then session_then bytes) pass after sent (Rose faults_then last) result
+    → (sent : List ℕ) × Appends has then sent × HasAnswered c first capacity terms (asked_by terms session bytes) pass after sent (Rose faults last) result
+answered_as c first capacity terms terms_then session session_then bytes pass after has then faults faults_then last result same_terms same_session same_faults (sent, added, answered) = (
   sent,
   added,
-  subst (λ (n : ℕ). HasAnswered c first capacity sites atoms (asked_by sites atoms bytes) pass after sent (Rose n last) result) same_faults
-      (subst (λ (l : List (List ℕ)). HasAnswered c first capacity sites l (asked_by sites l bytes) pass after sent (Rose faults_then last) result) same_atoms
-      (subst (λ (l : List (List ℕ)). HasAnswered c first capacity l atoms_then (asked_by l atoms_then bytes) pass after sent (Rose faults_then last) result) same_sites answered)),
+  subst (λ (n : ℕ). HasAnswered c first capacity terms (asked_by terms session bytes) pass after sent (Rose n last) result) same_faults
+      (subst (λ (s : ℕ). HasAnswered c first capacity terms (asked_by terms s bytes) pass after sent (Rose faults_then last) result) same_session
+      (subst (λ (t : Terms). HasAnswered c first capacity t (asked_by t session_then bytes) pass after sent (Rose faults_then last) result) same_terms answered)),
 )

@@ -1,6 +1,6 @@
 -- Replies to whole lines, and what comes behind the lines that were met.
-use Rattle.std.proofs.Common.{◌≡◌, ℕ, zero, suc, ◌+◌, ◌-◌, ◌<◌, ◌≤◌, Bool, true, false, eqb, cond, List, [], ◌∷◌, ◌++◌, length, take, codes, Some, refl, sym, ap, ◌∙◌, append_assoc, length-append, arith}
-use Rattle.std.specs.Prelude.{Option, None, filter}
+use Rattle.std.proofs.Common.{◌≡◌, ℕ, zero, suc, ◌+◌, ◌-◌, ◌<◌, ◌≤◌, Bool, true, false, eqb, cond, List, [], ◌∷◌, ◌++◌, length, take, Ok, Err, refl, sym, ap, ◌∙◌, append_assoc, length-append, arith}
+use Rattle.std.specs.Prelude.{filter}
 use Rattle.std.specs.List.{All, take_while, prefix_len, enumerate_from, onto_first}
 use Rattle.std.proofs.lemmas.List.{append-nil}
 use Rattle.std.proofs.lemmas.List.Sums.{sum_by-cons}
@@ -16,23 +16,23 @@ use Rattle.dcr_turn.specs.PassValue.{PassValue, HasMadeAll}
 use Rattle.dcr_turn.specs.Pushing.{entry_of}
 use Rattle.dcr_line.specs.Line.{entry_text}
 use Rattle.dcr_text.specs.Lines.{pieces_of}
-use Rattle.dcr_link.specs.Replies.{Placed, answers, calls_in, ended, is_short, lines_met, lines_text, most_bytes, most_lines, placed_of, whole_lines}
+use Rattle.dcr_link.specs.Replies.{Asked, Placed, Terms, answers, calls_in, ended, is_short, lines_met, lines_text, most_bytes, most_lines, placed_of, whole_lines}
 
 -- ---- what is asked, and what it is answered
 
-pub walk_append : (sites atoms : List (List ℕ)) (xs ys : List (Option Call)) (es fs : List Placed) → length (calls_in xs) ≡ length es
-    → answers sites atoms (xs ++ ys) (es ++ fs) ≡ answers sites atoms xs es ++ answers sites atoms ys fs
-walk_append sites atoms [] ys [] fs same = refl
-walk_append sites atoms [] ys (e ∷ es) fs same = absurd (omega (arith, same))
-walk_append sites atoms (None ∷ xs) ys es fs same = ap (λ (l : List (List ℕ)). codes "bad-line" ∷ l) (walk_append sites atoms xs ys es fs same)
-walk_append sites atoms (Some call ∷ xs) ys [] fs same = absurd (omega (arith, same))
-walk_append sites atoms (Some call ∷ xs) ys (e ∷ es) fs same =
-    ap (λ (l : List (List ℕ)). entry_text sites atoms e.0 e.1 ∷ l) (walk_append sites atoms xs ys es fs (omega (arith, same)))
+pub walk_append : (terms : Terms) (xs ys : List Asked) (es fs : List Placed) → length (calls_in xs) ≡ length es
+    → answers terms (xs ++ ys) (es ++ fs) ≡ answers terms xs es ++ answers terms ys fs
+walk_append terms [] ys [] fs same = refl
+walk_append terms [] ys (e ∷ es) fs same = absurd (omega (arith, same))
+walk_append terms (Err reply ∷ xs) ys es fs same = ap (λ (l : List (List ℕ)). reply ∷ l) (walk_append terms xs ys es fs same)
+walk_append terms (Ok call ∷ xs) ys [] fs same = absurd (omega (arith, same))
+walk_append terms (Ok call ∷ xs) ys (e ∷ es) fs same =
+    ap (λ (l : List (List ℕ)). entry_text terms.sites terms.atoms e.0 e.1 ∷ l) (walk_append terms xs ys es fs (omega (arith, same)))
 
-pub calls-append : (xs ys : List (Option Call)) → calls_in (xs ++ ys) ≡ calls_in xs ++ calls_in ys
+pub calls-append : (xs ys : List Asked) → calls_in (xs ++ ys) ≡ calls_in xs ++ calls_in ys
 calls-append [] ys = refl
-calls-append (None ∷ xs) ys = calls-append xs ys
-calls-append (Some call ∷ xs) ys = ap (λ (l : List Call). call ∷ l) (calls-append xs ys)
+calls-append (Err reply ∷ xs) ys = calls-append xs ys
+calls-append (Ok call ∷ xs) ys = ap (λ (l : List Call). call ∷ l) (calls-append xs ys)
 
 pub text-append : (xs ys : List (List ℕ)) → lines_text (xs ++ ys) ≡ lines_text xs ++ lines_text ys
 text-append [] ys = refl

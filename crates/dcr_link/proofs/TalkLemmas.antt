@@ -1,6 +1,6 @@
 -- The lines of a session, one after the other, and its end.
-use Rattle.std.proofs.Common.{◌≡◌, ◌≢◌, ◌⊎◌, ℕ, zero, suc, ◌+◌, ◌-◌, ◌<◌, ◌≤◌, true, false, eqb, List, [], ◌∷◌, ◌++◌, length, map, take, drop, codes, Some, refl, sym, ap, subst, ◌∙◌, append_assoc, length-append, arith, inl, inr}
-use Rattle.std.specs.Prelude.{Option, None}
+use Rattle.std.proofs.Common.{◌≡◌, ◌≢◌, ◌⊎◌, ℕ, zero, suc, ◌+◌, ◌-◌, ◌<◌, ◌≤◌, true, false, eqb, List, [], ◌∷◌, ◌++◌, length, map, take, drop, codes, Some, Ok, Err, refl, sym, ap, subst, ◌∙◌, append_assoc, length-append, arith, inl, inr}
+use Rattle.std.specs.Prelude.{Option}
 use Rattle.std.specs.List.{take_while}
 use Rattle.std.proofs.lemmas.List.{append-nil, drop-append-le, length-map, map-append, take-append-drop, take-append-le, take_all}
 use Rattle.std.proofs.lemmas.Bool.{true≢false}
@@ -18,7 +18,7 @@ use Rattle.dcr_cluster.specs.Calls.{AnsweredAfter, HaltedAfter}
 use Rattle.dcr_cluster.specs.declared.halt.Halt.{Halt}
 use Rattle.dcr_link.specs.declared.end.WorkCause.{WorkCause}
 use Rattle.dcr_link.specs.declared.end.WorkCause.TheVariants.{Ended, LinkFault, LongLine, ManyLines, Halted, NoMemory}
-use Rattle.dcr_link.specs.Replies.{Placed, answers, asked_by, asked_in, call_of, calls_in, ended, halt_text, is_short, last_words, lines_met, lines_text, made_since, most_bytes, most_lines, placed_of, replies, whole_lines}
+use Rattle.dcr_link.specs.Replies.{Asked, Placed, Terms, answers, asked_by, asked_in, call_of, calls_in, ended, halt_text, is_short, last_words, lines_met, lines_text, made_since, most_bytes, most_lines, placed_of, replies, whole_lines}
 use Rattle.dcr_link.specs.Serving.{EndsBy, Served}
 use Rattle.dcr_link.specs.TalkModel.{TalkValue}
 use Rattle.dcr_link.specs.Talking.{CutsNext, Going, HasAnswered, IsAnswered, IsSent}
@@ -76,7 +76,7 @@ next_few a b m is less = omega arith
 map_one : {X Y : Type 0} (f : X → Y) (xs : List X) (x : X) → map f (xs ++ x ∷ []) ≡ map f xs ++ f x ∷ []
 map_one f xs x = map-append f xs (x ∷ [])
 
-module _ {D : Type 0} (c : ClusterId) (first : Option (Store D)) (capacity : ℕ) (sites atoms : List (List ℕ)) where
+module _ {D : Type 0} (c : ClusterId) (first : Option (Store D)) (capacity : ℕ) (terms : Terms) where
   -- ---- one line more
 
   module _ (before pass after : PassValue) (same : pass.session ≡ before.session) (fewer : before.made ≤ length (placed_of before.session pass.front)) where
@@ -100,32 +100,32 @@ module _ {D : Type 0} (c : ClusterId) (first : Option (Store D)) (capacity : ℕ
         ∙ ap (λ (s : ℕ). drop before.made (placed_of s pass.front)) same
 
   -- what is known of the entries after a line was answered
-  record Grown (before after : PassValue) (entries : List Placed) (asked : List (Option Call)) (a : Option Call) (text : List ℕ) : Type 0 where
+  record Grown (before after : PassValue) (entries : List Placed) (asked : List Asked) (a : Asked) (text : List ℕ) : Type 0 where
     pub session : after.session ≡ before.session
     pub not_fewer : before.made ≤ length (placed_of before.session after.front)
     pub made : after.made ≡ before.made + length (made_since before after)
     pub in_order : map call_of (made_since before after) ≡ calls_in (asked ++ a ∷ [])
-    pub texts : answers sites atoms (asked ++ a ∷ []) (made_since before after) ≡ answers sites atoms asked entries ++ text ∷ []
+    pub texts : answers terms (asked ++ a ∷ []) (made_since before after) ≡ answers terms asked entries ++ text ∷ []
 
-  as_many : (entries : List Placed) (asked : List (Option Call)) → map call_of entries ≡ calls_in asked → length (calls_in asked) ≡ length entries
+  as_many : (entries : List Placed) (asked : List Asked) → map call_of entries ≡ calls_in asked → length (calls_in asked) ≡ length entries
   as_many entries asked in_order = sym (ap length in_order) ∙ length-map entries call_of
 
-  grown : (before pass after : PassValue) (asked : List (Option Call)) (a : Option Call) (text : List ℕ)
+  grown : (before pass after : PassValue) (asked : List Asked) (a : Asked) (text : List ℕ)
       → pass.session ≡ before.session → before.made ≤ length (placed_of before.session pass.front) → pass.made ≡ before.made + length (made_since before pass)
-      → map call_of (made_since before pass) ≡ calls_in asked → IsAnswered c first capacity sites atoms a pass after text
+      → map call_of (made_since before pass) ≡ calls_in asked → IsAnswered c first capacity terms a pass after text
       → Grown before after (made_since before pass) asked a text
-  grown before pass after asked None text same fewer made in_order (is_same, is_text) = record {
+  grown before pass after asked (Err reply) text same fewer made in_order (is_same, is_text) = record {
     session = ap (λ (p : PassValue). p.session) is_same ∙ same;
     not_fewer = subst (λ (p : PassValue). before.made ≤ length (placed_of before.session p.front)) (sym is_same) fewer;
     made = subst (λ (p : PassValue). p.made ≡ before.made + length (made_since before p)) (sym is_same) made;
-    in_order = ap (λ (p : PassValue). map call_of (made_since before p)) is_same ∙ in_order ∙ sym (append-nil (calls_in asked)) ∙ sym (calls-append asked (None ∷ []));
+    in_order = ap (λ (p : PassValue). map call_of (made_since before p)) is_same ∙ in_order ∙ sym (append-nil (calls_in asked)) ∙ sym (calls-append asked (Err reply ∷ []));
     texts =
-        ap (λ (p : PassValue). answers sites atoms (asked ++ None ∷ []) (made_since before p)) is_same
-        ∙ ap (answers sites atoms (asked ++ None ∷ [])) (sym (append-nil (made_since before pass)))
-        ∙ walk_append sites atoms asked (None ∷ []) (made_since before pass) [] (as_many (made_since before pass) asked in_order)
-        ∙ ap (λ (t : List ℕ). answers sites atoms asked (made_since before pass) ++ t ∷ []) (sym is_text);
+        ap (λ (p : PassValue). answers terms (asked ++ Err reply ∷ []) (made_since before p)) is_same
+        ∙ ap (answers terms (asked ++ Err reply ∷ [])) (sym (append-nil (made_since before pass)))
+        ∙ walk_append terms asked (Err reply ∷ []) (made_since before pass) [] (as_many (made_since before pass) asked in_order)
+        ∙ ap (λ (t : List ℕ). answers terms asked (made_since before pass) ++ t ∷ []) (sym is_text);
   }
-  grown before pass after asked (Some call) text same fewer made in_order (J, outcome, answered, is_text) =
+  grown before pass after asked (Ok call) text same fewer made in_order (J, outcome, answered, is_text) =
       let placed : Placed = (length J, entry_of pass call outcome) in
       let more = made_more before pass after same fewer J call outcome answered in
       let longer : length (placed_of before.session after.front) ≡ length (placed_of before.session pass.front) + 1 =
@@ -137,17 +137,17 @@ module _ {D : Type 0} (c : ClusterId) (first : Option (Store D)) (capacity : ℕ
         made = let m = answered.made in omega arith;
         in_order =
             ap (map call_of) more.1 ∙ map_one call_of (made_since before pass) placed ∙ ap (λ (l : List Call). l ++ call ∷ []) in_order
-            ∙ sym (calls-append asked (Some call ∷ []));
+            ∙ sym (calls-append asked (Ok call ∷ []));
         texts =
-            ap (answers sites atoms (asked ++ Some call ∷ [])) more.1
-            ∙ walk_append sites atoms asked (Some call ∷ []) (made_since before pass) (placed ∷ []) (as_many (made_since before pass) asked in_order)
-            ∙ ap (λ (t : List ℕ). answers sites atoms asked (made_since before pass) ++ t ∷ []) (sym is_text);
+            ap (answers terms (asked ++ Ok call ∷ [])) more.1
+            ∙ walk_append terms asked (Ok call ∷ []) (made_since before pass) (placed ∷ []) (as_many (made_since before pass) asked in_order)
+            ∙ ap (λ (t : List ℕ). answers terms asked (made_since before pass) ++ t ∷ []) (sym is_text);
       }
 
   -- ---- what comes since the last line end
 
   pub going_more : (before pass : PassValue) (talk next : TalkValue) (piece came written : List ℕ) (used : ℕ)
-      → Going c first capacity sites atoms before pass talk came written → CutsNext talk piece used More next → Going c first capacity sites atoms before pass next (came ++ piece) written
+      → Going c first capacity terms before pass talk came written → CutsNext talk piece used More next → Going c first capacity terms before pass next (came ++ piece) written
   going_more before pass talk next piece came written used going cut =
       let takes : TakesAll talk.cutter piece used next.cutter = cut.cuts in
       let same_lines : next.lines ≡ talk.lines = ap (λ (t : TalkValue). t.lines) cut.same ∙ (let e : talk.lines + 0 ≡ talk.lines = omega arith in e) in
@@ -172,7 +172,7 @@ module _ {D : Type 0} (c : ClusterId) (first : Option (Store D)) (capacity : ℕ
   -- ---- one line
 
   module _ (before pass after : PassValue) (talk next : TalkValue) (piece came written : List ℕ) (used : ℕ)
-      (going : Going c first capacity sites atoms before pass talk came written) (cut : CutsNext talk piece used Line next) (spare : talk.lines < most_lines) where
+      (going : Going c first capacity terms before pass talk came written) (cut : CutsNext talk piece used Line next) (spare : talk.lines < most_lines) where
     abbrev pub cuts : CutsLine talk.cutter piece used next.cutter
     cuts = cut.cuts
 
@@ -211,18 +211,18 @@ module _ {D : Type 0} (c : ClusterId) (first : Option (Store D)) (capacity : ℕ
         ∙ sym (text-append going.lines (line ∷ []))
 
     -- what is known once it was answered by this text
-    line_grown : (text : List ℕ) → IsAnswered c first capacity sites atoms (asked_by sites atoms next.cutter.bytes) pass after text
-        → Grown before after (made_since before pass) (asked_in sites atoms going.lines) (asked_by sites atoms line) text
+    line_grown : (text : List ℕ) → IsAnswered c first capacity terms (asked_by terms before.session next.cutter.bytes) pass after text
+        → Grown before after (made_since before pass) (asked_in terms before.session going.lines) (asked_by terms before.session line) text
     line_grown text answered =
-        grown before pass after (asked_in sites atoms going.lines) (asked_by sites atoms line) text going.session going.not_fewer going.made going.in_order
-        (subst (λ (l : List ℕ). IsAnswered c first capacity sites atoms (asked_by sites atoms l) pass after text) line_is answered)
+        grown before pass after (asked_in terms before.session going.lines) (asked_by terms before.session line) text going.session going.not_fewer going.made going.in_order
+        (subst (λ (l : List ℕ). IsAnswered c first capacity terms (asked_by terms before.session l) pass after text) line_is answered)
 
-    asked_more : asked_in sites atoms lines ≡ asked_in sites atoms going.lines ++ asked_by sites atoms line ∷ []
-    asked_more = map_one (asked_by sites atoms) going.lines line
+    asked_more : asked_in terms before.session lines ≡ asked_in terms before.session going.lines ++ asked_by terms before.session line ∷ []
+    asked_more = map_one (asked_by terms before.session) going.lines line
 
     pub going_line : (text : List ℕ) (told : TalkValue) → told.cutter ≡ next.cutter → told.lines ≡ next.lines
-        → IsAnswered c first capacity sites atoms (asked_by sites atoms next.cutter.bytes) pass after text
-        → Going c first capacity sites atoms before after told (came ++ take used piece) (written ++ ended text)
+        → IsAnswered c first capacity terms (asked_by terms before.session next.cutter.bytes) pass after text
+        → Going c first capacity terms before after told (came ++ take used piece) (written ++ ended text)
     going_line text told same_cutter same_lines answered =
         let g = line_grown text answered in
         let empty : begun told.cutter ≡ [] = ap begun same_cutter ∙ none_begun in
@@ -243,21 +243,21 @@ module _ {D : Type 0} (c : ClusterId) (first : Option (Store D)) (capacity : ℕ
           in_order = g.in_order ∙ ap calls_in (sym asked_more);
           written_is =
               ap (λ (l : List ℕ). l ++ ended text) going.written_is
-              ∙ ap (λ (l : List ℕ). lines_text (answers sites atoms (asked_in sites atoms going.lines) (made_since before pass)) ++ l) (sym (append-nil (ended text)))
-              ∙ sym (text-append (answers sites atoms (asked_in sites atoms going.lines) (made_since before pass)) (text ∷ []))
+              ∙ ap (λ (l : List ℕ). lines_text (answers terms (asked_in terms before.session going.lines) (made_since before pass)) ++ l) (sym (append-nil (ended text)))
+              ∙ sym (text-append (answers terms (asked_in terms before.session going.lines) (made_since before pass)) (text ∷ []))
               ∙ ap lines_text (sym g.texts)
-              ∙ ap (λ (asked : List (Option Call)). lines_text (answers sites atoms asked (made_since before after))) (sym asked_more);
+              ∙ ap (λ (asked : List Asked). lines_text (answers terms asked (made_since before after))) (sym asked_more);
         }
 
   -- ---- the end
 
-  module _ (before pass after : PassValue) (talk : TalkValue) (came written : List ℕ) (going : Going c first capacity sites atoms before pass talk came written)
+  module _ (before pass after : PassValue) (talk : TalkValue) (came written : List ℕ) (going : Going c first capacity terms before pass talk came written)
       (same : made_since before after ≡ made_since before pass) where
     abbrev pub entries : List Placed
     entries = made_since before pass
 
-    abbrev pub asked : List (Option Call)
-    asked = asked_in sites atoms going.lines
+    abbrev pub asked : List Asked
+    asked = asked_in terms before.session going.lines
 
     -- the lines that are met are those that came, and some behind them
     pub met : (more : List ℕ) → talk.lines ≤ most_lines
@@ -268,50 +268,50 @@ module _ {D : Type 0} (c : ClusterId) (first : Option (Store D)) (capacity : ℕ
         ∙ ap (λ (n : ℕ). going.lines ++ take (most_lines - n) (take_while is_short (whole_lines (begun talk.cutter ++ more)))) going.as_many
 
     module _ (more : List ℕ) (behind : List (List ℕ)) (is_met : lines_met (came ++ more) ≡ going.lines ++ behind) where
-      abbrev pub asked_behind : List (Option Call)
-      asked_behind = asked_in sites atoms behind
+      abbrev pub asked_behind : List Asked
+      asked_behind = asked_in terms before.session behind
 
-      asked_met : asked_in sites atoms (lines_met (came ++ more)) ≡ asked ++ asked_behind
-      asked_met = ap (asked_in sites atoms) is_met ∙ map-append (asked_by sites atoms) going.lines behind
+      asked_met : asked_in terms before.session (lines_met (came ++ more)) ≡ asked ++ asked_behind
+      asked_met = ap (asked_in terms before.session) is_met ∙ map-append (asked_by terms before.session) going.lines behind
 
-      calls_are : calls_in (asked_in sites atoms (lines_met (came ++ more))) ≡ calls_in asked ++ calls_in asked_behind
+      calls_are : calls_in (asked_in terms before.session (lines_met (came ++ more))) ≡ calls_in asked ++ calls_in asked_behind
       calls_are = ap calls_in asked_met ∙ calls-append asked asked_behind
 
-      calls_first : map call_of (made_since before after) ≡ take (length (made_since before after)) (calls_in (asked_in sites atoms (lines_met (came ++ more))))
+      calls_first : map call_of (made_since before after) ≡ take (length (made_since before after)) (calls_in (asked_in terms before.session (lines_met (came ++ more))))
       calls_first =
           ap (map call_of) same ∙ going.in_order
           ∙ sym (take_length (calls_in asked) (calls_in asked_behind) (length (made_since before after)) (as_many entries asked going.in_order ∙ sym (ap length same)))
           ∙ ap (take (length (made_since before after))) (sym calls_are)
 
       replies_are : (cause : WorkCause)
-          → replies sites atoms (came ++ more) (made_since before after) cause ≡ written ++ lines_text (answers sites atoms asked_behind [] ++ last_words cause)
+          → replies terms before.session (came ++ more) (made_since before after) cause ≡ written ++ lines_text (answers terms asked_behind [] ++ last_words cause)
       replies_are cause =
-          ap (λ (es : List Placed). replies sites atoms (came ++ more) es cause) same
-          ∙ ap (λ (xs : List (Option Call)). lines_text (answers sites atoms xs entries ++ last_words cause)) asked_met
-          ∙ ap (λ (es : List Placed). lines_text (answers sites atoms (asked ++ asked_behind) es ++ last_words cause)) (sym (append-nil entries))
-          ∙ ap (λ (texts : List (List ℕ)). lines_text (texts ++ last_words cause)) (walk_append sites atoms asked asked_behind entries [] (as_many entries asked going.in_order))
-          ∙ ap lines_text (append_assoc (answers sites atoms asked entries) (answers sites atoms asked_behind []) (last_words cause))
-          ∙ text-append (answers sites atoms asked entries) (answers sites atoms asked_behind [] ++ last_words cause)
-          ∙ ap (λ (l : List ℕ). l ++ lines_text (answers sites atoms asked_behind [] ++ last_words cause)) (sym going.written_is)
+          ap (λ (es : List Placed). replies terms before.session (came ++ more) es cause) same
+          ∙ ap (λ (xs : List Asked). lines_text (answers terms xs entries ++ last_words cause)) asked_met
+          ∙ ap (λ (es : List Placed). lines_text (answers terms (asked ++ asked_behind) es ++ last_words cause)) (sym (append-nil entries))
+          ∙ ap (λ (texts : List (List ℕ)). lines_text (texts ++ last_words cause)) (walk_append terms asked asked_behind entries [] (as_many entries asked going.in_order))
+          ∙ ap lines_text (append_assoc (answers terms asked entries) (answers terms asked_behind []) (last_words cause))
+          ∙ text-append (answers terms asked entries) (answers terms asked_behind [] ++ last_words cause)
+          ∙ ap (λ (l : List ℕ). l ++ lines_text (answers terms asked_behind [] ++ last_words cause)) (sym going.written_is)
 
       -- a beginning of the replies so far was written, and the session has ended without last words
-      pub served_part : (part rest : List ℕ) (failed : Type 0) (cause : WorkCause) → part ++ rest ≡ written → EndsBy first capacity sites atoms (came ++ more) before after part failed cause
-          → Served first capacity sites atoms (came ++ more) before after part failed (record { calls = length (made_since before after); cause = cause })
+      pub served_part : (part rest : List ℕ) (failed : Type 0) (cause : WorkCause) → part ++ rest ≡ written → EndsBy first capacity terms (came ++ more) before after part failed cause
+          → Served first capacity terms (came ++ more) before after part failed (record { calls = length (made_since before after); cause = cause })
       served_part part rest failed cause whole ends = record {
         calls = refl;
         in_order = calls_first;
-        rest = rest ++ lines_text (answers sites atoms asked_behind [] ++ last_words cause);
+        rest = rest ++ lines_text (answers terms asked_behind [] ++ last_words cause);
         replied =
-            sym (append_assoc part rest (lines_text (answers sites atoms asked_behind [] ++ last_words cause)))
-            ∙ ap (λ (l : List ℕ). l ++ lines_text (answers sites atoms asked_behind [] ++ last_words cause)) whole
+            sym (append_assoc part rest (lines_text (answers terms asked_behind [] ++ last_words cause)))
+            ∙ ap (λ (l : List ℕ). l ++ lines_text (answers terms asked_behind [] ++ last_words cause)) whole
             ∙ sym (replies_are cause);
         ends = ends;
       }
 
       -- all replies so far were written, and these last words
-      module _ (failed : Type 0) (cause : WorkCause) (text sent : List ℕ) (last : last_words cause ≡ text ∷ []) (none : answers sites atoms asked_behind [] ≡ [])
+      module _ (failed : Type 0) (cause : WorkCause) (text sent : List ℕ) (last : last_words cause ≡ text ∷ []) (none : answers terms asked_behind [] ≡ [])
           (is_sent : IsSent failed text sent) where
-        all_said : replies sites atoms (came ++ more) (made_since before after) cause ≡ (written ++ sent) ++ is_sent.rest
+        all_said : replies terms before.session (came ++ more) (made_since before after) cause ≡ (written ++ sent) ++ is_sent.rest
         all_said =
             replies_are cause
             ∙ ap (λ (texts : List (List ℕ)). written ++ lines_text (texts ++ last_words cause)) none
@@ -319,14 +319,14 @@ module _ {D : Type 0} (c : ClusterId) (first : Option (Store D)) (capacity : ℕ
             ∙ ap (λ (l : List ℕ). written ++ l) (append-nil (ended text) ∙ sym is_sent.part)
             ∙ sym (append_assoc written sent is_sent.rest)
 
-        pub last_whole : ((written ++ sent) ≡ replies sites atoms (came ++ more) (made_since before after) cause) ⊎ failed
+        pub last_whole : ((written ++ sent) ≡ replies terms before.session (came ++ more) (made_since before after) cause) ⊎ failed
         last_whole = elim is_sent.whole [
           | inl all ↦ inl (sym (append-nil (written ++ sent)) ∙ ap (λ (l : List ℕ). (written ++ sent) ++ l) (sym all) ∙ sym all_said)
           | inr fault ↦ inr fault
         ]
 
-        pub served_last : EndsBy first capacity sites atoms (came ++ more) before after (written ++ sent) failed cause
-            → Served first capacity sites atoms (came ++ more) before after (written ++ sent) failed (record { calls = length (made_since before after); cause = cause })
+        pub served_last : EndsBy first capacity terms (came ++ more) before after (written ++ sent) failed cause
+            → Served first capacity terms (came ++ more) before after (written ++ sent) failed (record { calls = length (made_since before after); cause = cause })
         served_last ends = record {
           calls = refl;
           in_order = calls_first;
@@ -340,8 +340,8 @@ module _ {D : Type 0} (c : ClusterId) (first : Option (Store D)) (capacity : ℕ
       whole_met : lines_met (came ++ more) ≡ going.lines ++ []
       whole_met = is_met ∙ sym (append-nil going.lines)
 
-      pub all_made : length (made_since before after) ≡ length (calls_in (asked_in sites atoms (lines_met (came ++ more))))
-      all_made = ap length same ∙ sym (as_many entries asked going.in_order) ∙ ap (λ (ls : List (List ℕ)). length (calls_in (asked_in sites atoms ls))) (sym is_met)
+      pub all_made : length (made_since before after) ≡ length (calls_in (asked_in terms before.session (lines_met (came ++ more))))
+      all_made = ap length same ∙ sym (as_many entries asked going.in_order) ∙ ap (λ (ls : List (List ℕ)). length (calls_in (asked_in terms before.session ls))) (sym is_met)
 
       pub bytes_behind : came ++ more ≡ lines_text (lines_met (came ++ more)) ++ (begun talk.cutter ++ more)
       bytes_behind =
@@ -350,9 +350,9 @@ module _ {D : Type 0} (c : ClusterId) (first : Option (Store D)) (capacity : ℕ
 
   -- the line has too many bytes
   pub ends_long : (before pass : PassValue) (talk next : TalkValue) (piece came written sent : List ℕ) (used : ℕ) (failed : Type 0)
-      → Going c first capacity sites atoms before pass talk came written → talk.lines < most_lines → CutsNext talk piece used TooLong next
+      → Going c first capacity terms before pass talk came written → talk.lines < most_lines → CutsNext talk piece used TooLong next
       → IsSent failed (codes "long-line") sent
-      → (more : List ℕ) → Served first capacity sites atoms (came ++ (piece ++ more)) before pass (written ++ sent) failed (record { calls = length (made_since before pass); cause = LongLine })
+      → (more : List ℕ) → Served first capacity terms (came ++ (piece ++ more)) before pass (written ++ sent) failed (record { calls = length (made_since before pass); cause = LongLine })
   ends_long before pass talk next piece came written sent used failed going spare cut is_sent more = elim cut.cuts [
     | inl finds ↦ (
         let head : List ℕ = begun talk.cutter ++ finds.head in
@@ -384,8 +384,8 @@ module _ {D : Type 0} (c : ClusterId) (first : Option (Store D)) (capacity : ℕ
 
   -- no line more may be answered
   pub ends_many : (before pass : PassValue) (talk : TalkValue) (piece came written sent : List ℕ) (failed : Type 0)
-      → Going c first capacity sites atoms before pass talk came written → talk.lines ≡ most_lines → piece ≢ [] → IsSent failed (codes "many-lines") sent
-      → (more : List ℕ) → Served first capacity sites atoms (came ++ (piece ++ more)) before pass (written ++ sent) failed (record { calls = length (made_since before pass); cause = ManyLines })
+      → Going c first capacity terms before pass talk came written → talk.lines ≡ most_lines → piece ≢ [] → IsSent failed (codes "many-lines") sent
+      → (more : List ℕ) → Served first capacity terms (came ++ (piece ++ more)) before pass (written ++ sent) failed (record { calls = length (made_since before pass); cause = ManyLines })
   ends_many before pass talk piece came written sent failed going most some is_sent more =
       let is_met : lines_met (came ++ (piece ++ more)) ≡ going.lines =
       met before pass pass talk came written going refl (piece ++ more) (le_same talk.lines most_lines most)
@@ -404,8 +404,8 @@ module _ {D : Type 0} (c : ClusterId) (first : Option (Store D)) (capacity : ℕ
 
   -- the input has ended
   pub ends_input : (before pass : PassValue) (talk : TalkValue) (came written : List ℕ) (failed : Type 0)
-      → Going c first capacity sites atoms before pass talk came written
-      → Served first capacity sites atoms came before pass written failed (record { calls = length (made_since before pass); cause = Ended })
+      → Going c first capacity terms before pass talk came written
+      → Served first capacity terms came before pass written failed (record { calls = length (made_since before pass); cause = Ended })
   ends_input before pass talk came written failed going =
       let no_more : whole_lines (begun talk.cutter ++ []) ≡ [] = ap whole_lines (append-nil (begun talk.cutter)) ∙ whole_none (begun talk.cutter) going.none_begun in
       let is_met : lines_met (came ++ []) ≡ going.lines =
@@ -415,7 +415,7 @@ module _ {D : Type 0} (c : ClusterId) (first : Option (Store D)) (capacity : ℕ
       let all : whole_lines (came ++ []) ≡ going.lines =
       ap whole_lines (ap (λ (l : List ℕ). l ++ []) going.came_is ∙ append_assoc (lines_text going.lines) (begun talk.cutter) [])
       ∙ whole_behind going.lines (begun talk.cutter ++ []) going.no_end ∙ ap (λ (ls : List (List ℕ)). going.lines ++ ls) no_more ∙ append-nil going.lines in
-      subst (λ (l : List ℕ). Served first capacity sites atoms l before pass written failed (record { calls = length (made_since before pass); cause = Ended })) (append-nil came)
+      subst (λ (l : List ℕ). Served first capacity terms l before pass written failed (record { calls = length (made_since before pass); cause = Ended })) (append-nil came)
       (served_part before pass pass talk came written going refl [] [] (is_met ∙ sym (append-nil going.lines)) written [] failed Ended (append-nil written) (
         is_met ∙ sym all,
         all_made before pass pass talk came written going refl [] is_met,
@@ -424,8 +424,8 @@ module _ {D : Type 0} (c : ClusterId) (first : Option (Store D)) (capacity : ℕ
 
   -- a read has failed
   pub ends_read : (before pass : PassValue) (talk : TalkValue) (came written more : List ℕ) (failed : Type 0)
-      → Going c first capacity sites atoms before pass talk came written → failed
-      → Served first capacity sites atoms (came ++ more) before pass written failed (record { calls = length (made_since before pass); cause = LinkFault })
+      → Going c first capacity terms before pass talk came written → failed
+      → Served first capacity terms (came ++ more) before pass written failed (record { calls = length (made_since before pass); cause = LinkFault })
   ends_read before pass talk came written more failed going fault =
       served_part before pass pass talk came written going refl more _ (met before pass pass talk came written going refl more going.few) written [] failed LinkFault (append-nil written) fault
 
@@ -438,26 +438,26 @@ module _ {D : Type 0} (c : ClusterId) (first : Option (Store D)) (capacity : ℕ
 
   -- the reply to the line was not written whole
   ends_part : (before pass after : PassValue) (talk next : TalkValue) (piece came written sent rest text : List ℕ) (used : ℕ) (failed : Type 0) (cause : WorkCause)
-      → (going : Going c first capacity sites atoms before pass talk came written) → (cut : CutsNext talk piece used Line next) → (spare : talk.lines < most_lines)
-      → IsAnswered c first capacity sites atoms (asked_by sites atoms next.cutter.bytes) pass after text → sent ++ rest ≡ ended text → (more : List ℕ)
-      → EndsBy first capacity sites atoms (came ++ (piece ++ more)) before after (written ++ sent) failed cause
-      → Served first capacity sites atoms (came ++ (piece ++ more)) before after (written ++ sent) failed (record { calls = length (made_since before after); cause = cause })
+      → (going : Going c first capacity terms before pass talk came written) → (cut : CutsNext talk piece used Line next) → (spare : talk.lines < most_lines)
+      → IsAnswered c first capacity terms (asked_by terms before.session next.cutter.bytes) pass after text → sent ++ rest ≡ ended text → (more : List ℕ)
+      → EndsBy first capacity terms (came ++ (piece ++ more)) before after (written ++ sent) failed cause
+      → Served first capacity terms (came ++ (piece ++ more)) before after (written ++ sent) failed (record { calls = length (made_since before after); cause = cause })
   ends_part before pass after talk next piece came written sent rest text used failed cause going cut spare answered whole more ends =
-      let further : Going c first capacity sites atoms before after next (came ++ take used piece) (written ++ ended text) =
+      let further : Going c first capacity terms before after next (came ++ take used piece) (written ++ ended text) =
       going_line before pass after talk next piece came written used going cut spare text next refl refl answered in
       let few : next.lines ≤ most_lines = next_few next.lines talk.lines most_lines (ap (λ (t : TalkValue). t.lines) cut.same) spare in
       let same : (came ++ take used piece) ++ (drop used piece ++ more) ≡ came ++ (piece ++ more) = rest_whole came piece more used in
-      subst (λ (l : List ℕ). Served first capacity sites atoms l before after (written ++ sent) failed (record { calls = length (made_since before after); cause = cause })) same
+      subst (λ (l : List ℕ). Served first capacity terms l before after (written ++ sent) failed (record { calls = length (made_since before after); cause = cause })) same
       (served_part before after after next (came ++ take used piece) (written ++ ended text) further refl (drop used piece ++ more) _
       (met before after after next (came ++ take used piece) (written ++ ended text) further refl (drop used piece ++ more) few)
       (written ++ sent) rest failed cause (append_assoc written sent rest ∙ ap (λ (l : List ℕ). written ++ l) whole)
-      (subst (λ (l : List ℕ). EndsBy first capacity sites atoms l before after (written ++ sent) failed cause) (sym same) ends))
+      (subst (λ (l : List ℕ). EndsBy first capacity terms l before after (written ++ sent) failed cause) (sym same) ends))
 
   -- the call of the line halted
   ends_halt : (before pass after : PassValue) (talk next : TalkValue) (piece came written sent : List ℕ) (used : ℕ) (failed : Type 0) (call : Call) (halt : Halt)
-      → (going : Going c first capacity sites atoms before pass talk came written) → (cut : CutsNext talk piece used Line next) → (spare : talk.lines < most_lines)
-      → asked_by sites atoms next.cutter.bytes ≡ Some call → HaltedAfter c first capacity after.front pass after halt → IsSent failed (halt_text halt) sent → (more : List ℕ)
-      → Served first capacity sites atoms (came ++ (piece ++ more)) before after (written ++ sent) failed (record { calls = length (made_since before after); cause = Halted halt })
+      → (going : Going c first capacity terms before pass talk came written) → (cut : CutsNext talk piece used Line next) → (spare : talk.lines < most_lines)
+      → asked_by terms before.session next.cutter.bytes ≡ Ok call → HaltedAfter c first capacity after.front pass after halt → IsSent failed (halt_text halt) sent → (more : List ℕ)
+      → Served first capacity terms (came ++ (piece ++ more)) before after (written ++ sent) failed (record { calls = length (made_since before after); cause = Halted halt })
   ends_halt before pass after talk next piece came written sent used failed call halt going cut spare is_call halted is_sent more =
       let cuts : CutsLine talk.cutter piece used next.cutter = cut.cuts in
       let the_line : List ℕ = begun talk.cutter ++ cuts.head in
@@ -476,37 +476,37 @@ module _ {D : Type 0} (c : ClusterId) (first : Option (Store D)) (capacity : ℕ
       let others : List (List ℕ) = take (most_lines - talk.lines - 1) (take_while is_short (whole_lines behind)) in
       let is_met : lines_met (came ++ (piece ++ more)) ≡ going.lines ++ the_line ∷ others =
       met before pass after talk came written going same (piece ++ more) (le_less talk.lines most_lines spare) ∙ ap (λ (ls : List (List ℕ)). going.lines ++ ls) first_met in
-      let here : asked_by sites atoms the_line ≡ Some call =
-      ap (asked_by sites atoms) (sym (line_is before pass after talk next piece came written used going cut spare)) ∙ is_call in
-      let none : answers sites atoms (asked_in sites atoms (the_line ∷ others)) [] ≡ [] =
-      ap (λ (a : Option Call). answers sites atoms (a ∷ asked_in sites atoms others) []) here in
-      let one_more_call : length (calls_in (asked_in sites atoms (lines_met (came ++ (piece ++ more))))) ≡ length (calls_in (asked_in sites atoms going.lines)) + length (calls_in (asked_in sites atoms (the_line ∷ others))) =
+      let here : asked_by terms before.session the_line ≡ Ok call =
+      ap (asked_by terms before.session) (sym (line_is before pass after talk next piece came written used going cut spare)) ∙ is_call in
+      let none : answers terms (asked_in terms before.session (the_line ∷ others)) [] ≡ [] =
+      ap (λ (a : Asked). answers terms (a ∷ asked_in terms before.session others) []) here in
+      let one_more_call : length (calls_in (asked_in terms before.session (lines_met (came ++ (piece ++ more))))) ≡ length (calls_in (asked_in terms before.session going.lines)) + length (calls_in (asked_in terms before.session (the_line ∷ others))) =
       ap length (calls_are before pass after talk came written going same (piece ++ more) (the_line ∷ others) is_met)
-      ∙ length-append (calls_in (asked_in sites atoms going.lines)) (calls_in (asked_in sites atoms (the_line ∷ others))) in
-      let some : length (calls_in (asked_in sites atoms (the_line ∷ others))) ≡ 1 + length (calls_in (asked_in sites atoms others)) =
-      ap (λ (a : Option Call). length (calls_in (a ∷ asked_in sites atoms others))) here ∙ (one_and (length (calls_in (asked_in sites atoms others)))) in
-      let so_many : length (calls_in (asked_in sites atoms going.lines)) ≡ length (made_since before pass) = as_many (made_since before pass) (asked_in sites atoms going.lines) going.in_order in
+      ∙ length-append (calls_in (asked_in terms before.session going.lines)) (calls_in (asked_in terms before.session (the_line ∷ others))) in
+      let some : length (calls_in (asked_in terms before.session (the_line ∷ others))) ≡ 1 + length (calls_in (asked_in terms before.session others)) =
+      ap (λ (a : Asked). length (calls_in (a ∷ asked_in terms before.session others))) here ∙ (one_and (length (calls_in (asked_in terms before.session others)))) in
+      let so_many : length (calls_in (asked_in terms before.session going.lines)) ≡ length (made_since before pass) = as_many (made_since before pass) (asked_in terms before.session going.lines) going.in_order in
       served_last before pass after talk came written going same (piece ++ more) (the_line ∷ others) is_met failed (Halted halt) (halt_text halt) sent refl none is_sent (
-        fewer (length (made_since before after)) (length (made_since before pass)) (length (calls_in (asked_in sites atoms going.lines))) (length (calls_in (asked_in sites atoms (the_line ∷ others))))
-            (length (calls_in (asked_in sites atoms (lines_met (came ++ (piece ++ more)))))) (length (calls_in (asked_in sites atoms others))) (ap length same) so_many some one_more_call,
+        fewer (length (made_since before after)) (length (made_since before pass)) (length (calls_in (asked_in terms before.session going.lines))) (length (calls_in (asked_in terms before.session (the_line ∷ others))))
+            (length (calls_in (asked_in terms before.session (lines_met (came ++ (piece ++ more)))))) (length (calls_in (asked_in terms before.session others))) (ap length same) so_many some one_more_call,
         halted.shows,
         last_whole before pass after talk came written going same (piece ++ more) (the_line ∷ others) is_met failed (Halted halt) (halt_text halt) sent refl none is_sent,
       )
 
   -- the session has ended with the line
-  pub ends_line : (before pass after : PassValue) (talk next : TalkValue) (piece came written sent : List ℕ) (used : ℕ) (failed : Type 0) (a : Option Call) (cause : WorkCause)
-      → Going c first capacity sites atoms before pass talk came written → CutsNext talk piece used Line next → talk.lines < most_lines
-      → asked_by sites atoms next.cutter.bytes ≡ a → HasAnswered c first capacity sites atoms a pass after sent failed (Some cause) → (more : List ℕ)
-      → Served first capacity sites atoms (came ++ (piece ++ more)) before after (written ++ sent) failed (record { calls = length (made_since before after); cause = cause })
+  pub ends_line : (before pass after : PassValue) (talk next : TalkValue) (piece came written sent : List ℕ) (used : ℕ) (failed : Type 0) (a : Asked) (cause : WorkCause)
+      → Going c first capacity terms before pass talk came written → CutsNext talk piece used Line next → talk.lines < most_lines
+      → asked_by terms before.session next.cutter.bytes ≡ a → HasAnswered c first capacity terms a pass after sent failed (Some cause) → (more : List ℕ)
+      → Served first capacity terms (came ++ (piece ++ more)) before after (written ++ sent) failed (record { calls = length (made_since before after); cause = cause })
   ends_line before pass after talk next piece came written sent used failed a LinkFault going cut spare is (text, answered, is_sent, fault) more =
       ends_part before pass after talk next piece came written sent is_sent.rest text used failed LinkFault going cut spare
-      (subst (λ (b : Option Call). IsAnswered c first capacity sites atoms b pass after text) (sym is) answered) is_sent.part more fault
+      (subst (λ (b : Asked). IsAnswered c first capacity terms b pass after text) (sym is) answered) is_sent.part more fault
   ends_line before pass after talk next piece came written sent used failed a NoMemory going cut spare is (text, answered, nothing) more =
       ends_part before pass after talk next piece came written sent (ended text) text used failed NoMemory going cut spare
-      (subst (λ (b : Option Call). IsAnswered c first capacity sites atoms b pass after text) (sym is) answered) (ap (λ (l : List ℕ). l ++ ended text) nothing) more tt
-  ends_line before pass after talk next piece came written sent used failed (Some call) (Halted halt) going cut spare is (halted, is_sent) more =
+      (subst (λ (b : Asked). IsAnswered c first capacity terms b pass after text) (sym is) answered) (ap (λ (l : List ℕ). l ++ ended text) nothing) more tt
+  ends_line before pass after talk next piece came written sent used failed (Ok call) (Halted halt) going cut spare is (halted, is_sent) more =
       ends_halt before pass after talk next piece came written sent used failed call halt going cut spare is halted is_sent more
-  ends_line before pass after talk next piece came written sent used failed None (Halted halt) going cut spare is answered more = absurd answered.0
+  ends_line before pass after talk next piece came written sent used failed (Err reply) (Halted halt) going cut spare is answered more = absurd answered.0
   ends_line before pass after talk next piece came written sent used failed a Ended going cut spare is answered more = absurd answered
   ends_line before pass after talk next piece came written sent used failed a LongLine going cut spare is answered more = absurd answered
   ends_line before pass after talk next piece came written sent used failed a ManyLines going cut spare is answered more = absurd answered

@@ -1,9 +1,11 @@
 -- What somebody who asks over a link is answered, line by line.
-use Rattle.std.specs.Prelude.{ℕ, ◌-◌, ◌==◌, Bool, nat_le, List, [], ◌∷◌, ◌++◌, length, map, filter, take, drop, codes, decimal, Option, Some, None, filter_map}
+use Rattle.std.specs.Prelude.{ℕ, ◌-◌, ◌==◌, Bool, nat_le, List, [], ◌∷◌, ◌++◌, length, map, filter, take, drop, codes, decimal, Option, Some, None, Result, Ok, Err, filter_map}
 use Rattle.std.specs.List.{enumerate_from, flat_map, take_while}
 use Rattle.dcr_text.specs.Cutting.{without_return}
 use Rattle.dcr_journal.specs.declared.call.Call.{Call}
 use Rattle.dcr_journal.specs.declared.call.Entry.{Entry}
+use Rattle.dcr_policy.specs.Deny.{deny}
+use Rattle.dcr_policy.specs.Roles.{Roles}
 use Rattle.dcr_line.specs.CallLine.{call_in}
 use Rattle.dcr_line.specs.Line.{entry_text}
 use Rattle.dcr_text.specs.Lines.{pieces_of}
@@ -31,16 +33,43 @@ is_short line = nat_le (length line) most_bytes
 abbrev pub lines_met : List ℕ → List (List ℕ)
 lines_met bytes = take most_lines (take_while is_short (whole_lines bytes))
 
--- the call that a line asks for, if it is one: a carriage return before the line end is no part of it
-abbrev pub asked_by : List (List ℕ) → List (List ℕ) → List ℕ → Option Call
-asked_by sites atoms line = call_in sites atoms (without_return line)
+-- the terms of those who ask: the names of the sites and of the atoms, and who may execute what
+pub record Terms : Type 0 where
+  pub sites : List (List ℕ)
+  pub atoms : List (List ℕ)
+  pub policy : Roles
 
-abbrev pub asked_in : List (List ℕ) → List (List ℕ) → List (List ℕ) → List (Option Call)
-asked_in sites atoms lines = map (asked_by sites atoms) lines
+abbrev pub terms_of : List (List ℕ) → List (List ℕ) → Roles → Terms
+terms_of sites atoms policy = record { sites = sites; atoms = atoms; policy = policy }
+
+-- what a line asks for: a call, or else what it is answered without one
+abbrev pub Asked : Type 0
+Asked = Result Call (List ℕ)
+
+-- the call, where it lacks no role
+abbrev pub unless_denied : Call → Option (List ℕ) → Asked
+unless_denied call None = Ok call
+unless_denied call (Some role) = Err (codes "denied " ++ role)
+
+-- the call of a session, where the line is one and the policy allows it
+abbrev pub allowed_by : Terms → ℕ → Option Call → Asked
+allowed_by terms session None = Err (codes "bad-line")
+allowed_by terms session (Some call) = unless_denied call (deny terms.policy session call)
+
+-- what a line of a session asks for: a carriage return before the line end is no part of it
+abbrev pub asked_by : Terms → ℕ → List ℕ → Asked
+asked_by terms session line = allowed_by terms session (call_in terms.sites terms.atoms (without_return line))
+
+abbrev pub asked_in : Terms → ℕ → List (List ℕ) → List Asked
+asked_in terms session lines = map (asked_by terms session) lines
 
 -- the calls among what lines ask for
-abbrev pub calls_in : List (Option Call) → List Call
-calls_in asked = filter_map (λ (call : Option Call). call) asked
+abbrev pub call_asked : Asked → Option Call
+call_asked (Ok call) = Some call
+call_asked (Err reply) = None
+
+abbrev pub calls_in : List Asked → List Call
+calls_in asked = filter_map call_asked asked
 
 -- an entry with its place in the history
 abbrev pub Placed : Type 0
@@ -58,12 +87,12 @@ abbrev pub made_since : PassValue → PassValue → List Placed
 made_since before after = drop before.made (placed_of before.session after.front)
 
 -- What is asked is answered one after the other: a call takes the next entry and is answered by its text, and where no
--- entry is left nothing more is answered; what is no call is answered by `bad-line`.
-abbrev pub answers : List (List ℕ) → List (List ℕ) → List (Option Call) → List Placed → List (List ℕ)
-answers sites atoms [] entries = []
-answers sites atoms (None ∷ asked) entries = codes "bad-line" ∷ answers sites atoms asked entries
-answers sites atoms (Some call ∷ asked) [] = []
-answers sites atoms (Some call ∷ asked) (placed ∷ entries) = entry_text sites atoms placed.0 placed.1 ∷ answers sites atoms asked entries
+-- entry is left nothing more is answered; what is no call that is allowed is answered by its own reply.
+abbrev pub answers : Terms → List Asked → List Placed → List (List ℕ)
+answers terms [] entries = []
+answers terms (Err reply ∷ asked) entries = reply ∷ answers terms asked entries
+answers terms (Ok call ∷ asked) [] = []
+answers terms (Ok call ∷ asked) (placed ∷ entries) = entry_text terms.sites terms.atoms placed.0 placed.1 ∷ answers terms asked entries
 
 -- what is told of a halt
 abbrev pub halt_text : Halt → List ℕ
@@ -87,6 +116,6 @@ ended text = text ++ 10 ∷ []
 abbrev pub lines_text : List (List ℕ) → List ℕ
 lines_text texts = flat_map ended texts
 
--- the replies to the bytes that were asked, by the entries that were made, where the session ended by this cause
-abbrev pub replies : List (List ℕ) → List (List ℕ) → List ℕ → List Placed → WorkCause → List ℕ
-replies sites atoms asked entries cause = lines_text (answers sites atoms (asked_in sites atoms (lines_met asked)) entries ++ last_words cause)
+-- the replies to the bytes that a session was asked by, by the entries that were made, where it ended by this cause
+abbrev pub replies : Terms → ℕ → List ℕ → List Placed → WorkCause → List ℕ
+replies terms session asked entries cause = lines_text (answers terms (asked_in terms session (lines_met asked)) entries ++ last_words cause)

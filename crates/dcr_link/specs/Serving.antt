@@ -9,7 +9,7 @@ use Rattle.dcr_cluster.specs.Calls.{Shows}
 use Rattle.dcr_link.specs.declared.end.WorkCause.{WorkCause}
 use Rattle.dcr_link.specs.declared.end.WorkCause.TheVariants.{Ended, LinkFault, LongLine, ManyLines, Halted, NoMemory}
 use Rattle.dcr_link.specs.declared.end.WorkEnd.{WorkEnd}
-use Rattle.dcr_link.specs.Replies.{asked_in, call_of, calls_in, lines_met, lines_text, made_since, most_bytes, most_lines, replies, whole_lines}
+use Rattle.dcr_link.specs.Replies.{Terms, asked_in, call_of, calls_in, lines_met, lines_text, made_since, most_bytes, most_lines, replies, whole_lines}
 
 -- after the lines that were met come more bytes than a line may have, without a line end, and more lines might be answered
 pub record HasLongLine (asked : List ℕ) : Type 0 where
@@ -28,10 +28,10 @@ pub record HasManyLines (asked : List ℕ) : Type 0 where
 
 -- A session over a link that had these bytes to ask has ended: by the entries that the pass has made since, as they stand in
 -- what it has seen, and by what was written.
-module _ {D : Type 0} (first : Option (Store D)) (capacity : ℕ) (sites atoms : List (List ℕ)) (asked : List ℕ) (before after : PassValue) (written : List ℕ) where
-  -- the calls among the lines that are met
+module _ {D : Type 0} (first : Option (Store D)) (capacity : ℕ) (terms : Terms) (asked : List ℕ) (before after : PassValue) (written : List ℕ) where
+  -- the calls among the lines that are met that are allowed
   abbrev pub calls_met : List Call
-  calls_met = calls_in (asked_in sites atoms (lines_met asked))
+  calls_met = calls_in (asked_in terms before.session (lines_met asked))
 
   -- each of them has its entry
   abbrev pub AllMade : Type 0
@@ -39,7 +39,7 @@ module _ {D : Type 0} (first : Option (Store D)) (capacity : ℕ) (sites atoms :
 
   -- all replies were written
   abbrev pub AllWritten : WorkCause → Type 0
-  AllWritten cause = written ≡ replies sites atoms asked (made_since before after) cause
+  AllWritten cause = written ≡ replies terms before.session asked (made_since before after) cause
 
   -- What each cause says, where `failed` says that a count of the link rose.
   abbrev pub EndsBy : Type 0 → WorkCause → Type 0
@@ -56,15 +56,15 @@ module _ {D : Type 0} (first : Option (Store D)) (capacity : ℕ) (sites atoms :
     pub in_order : map call_of (made_since before after) ≡ take end.calls calls_met
     -- a beginning of the replies was written
     pub rest : List ℕ
-    pub replied : written ++ rest ≡ replies sites atoms asked (made_since before after) end.cause
+    pub replied : written ++ rest ≡ replies terms before.session asked (made_since before after) end.cause
     pub ends : EndsBy failed end.cause
 
 -- The same over a link that tells its bytes, those left and those taken, at the begin and at the end, and the counts of its
 -- faults.
-abbrev pub Serves : {D : Type 0} → Option (Store D) → ℕ → List (List ℕ) → List (List ℕ) → PassValue → PassValue → Option (List ℕ) → Option (List ℕ) → Option (List ℕ) → Type 0 → WorkEnd → Type 0
-Serves first capacity sites atoms before after left taken now_taken failed end =
+abbrev pub Serves : {D : Type 0} → Option (Store D) → ℕ → Terms → PassValue → PassValue → Option (List ℕ) → Option (List ℕ) → Option (List ℕ) → Type 0 → WorkEnd → Type 0
+Serves first capacity terms before after left taken now_taken failed end =
     (asked had : List ℕ) → left ≡ Some asked → taken ≡ Some had
-    → (written : List ℕ) × (now_taken ≡ Some (had ++ written)) × Served first capacity sites atoms asked before after written failed end
+    → (written : List ℕ) × (now_taken ≡ Some (had ++ written)) × Served first capacity terms asked before after written failed end
 
 -- a count of the link rose
 abbrev pub AnyRose : ℕ → ℕ → ℕ → ℕ → Type 0

@@ -2,13 +2,11 @@
 use Rattle.std.specs.Prelude.{◌≡◌, ℕ, ◌≤◌, List}
 use Rattle.dcr_text.specs.Cutting.{Cutter}
 use Rattle.dcr_line.specs.DirectoryModel.{named}
-use Rattle.dcr_link.specs.Replies.{most_bytes, most_lines}
+use Rattle.dcr_link.specs.Replies.{Terms, most_bytes, most_lines, terms_of}
 use Rattle.dcr_link.specs.declared.talk.Talk.TheInside.{Inside}
 
 pub record TalkValue : Type 0 where
-  -- the names of the sites and those of the atoms
-  pub sites : List (List ℕ)
-  pub atoms : List (List ℕ)
+  pub terms : Terms
   -- what came since the last line end
   pub cutter : Cutter
   -- how many lines were cut off
@@ -17,7 +15,7 @@ pub record TalkValue : Type 0 where
   pub reply : List ℕ
 
 abbrev pub talk_of : Inside → TalkValue
-talk_of t = record { sites = t.cover.now.names; atoms = t.graph.now.names; cutter = t.cutter; lines = t.lines; reply = t.reply.items }
+talk_of t = record { terms = terms_of t.cover.now.names t.graph.now.names t.policy.now; cutter = t.cutter; lines = t.lines; reply = t.reply.items }
 
 -- names are found in the directory, and no more lines are answered than may be
 pub record IsTalk (t : Inside) : Type 0 where

@@ -1,5 +1,5 @@
 -- A session over a link, line by line.
-use Rattle.std.specs.Prelude.{◌≡◌, ◌⊎◌, ℕ, ◌+◌, ◌*◌, ◌-◌, ◌<◌, ◌≤◌, true, false, List, [], ◌++◌, length, map, codes, Option, Some, None, Result, Ok, Err, IfOk, ⊤}
+use Rattle.std.specs.Prelude.{◌≡◌, ◌⊎◌, ℕ, ◌+◌, ◌*◌, ◌-◌, ◌<◌, ◌≤◌, true, false, List, [], ◌++◌, length, map, Option, Some, None, Result, Ok, Err, IfOk, ⊤}
 use Rattle.std.specs.List.{All}
 use Rattle.dcr_text.specs.Cutting.{Cuts, HasNoEnd, begun}
 use Rattle.dcr_text.specs.declared.cutter.Cut.{Cut}
@@ -18,14 +18,15 @@ use Rattle.dcr_cluster.specs.Calls.{AnsweredAfter, HaltedAfter}
 use Rattle.dcr_cluster.specs.declared.halt.Halt.{Halt}
 use Rattle.dcr_link.specs.declared.end.WorkCause.{WorkCause}
 use Rattle.dcr_link.specs.declared.end.WorkCause.TheVariants.{LinkFault, Halted, NoMemory}
-use Rattle.dcr_link.specs.Replies.{answers, asked_in, call_of, calls_in, ended, halt_text, is_short, lines_text, made_since, most_bytes, most_lines, placed_of}
+use Rattle.dcr_link.specs.Replies.{Asked, Terms, answers, asked_in, call_of, calls_in, ended, halt_text, is_short, lines_text, made_since, most_bytes, most_lines, placed_of}
 use Rattle.dcr_link.specs.Serving.{Served}
 use Rattle.dcr_link.specs.TalkModel.{TalkValue}
 
--- the names are those of as many sites and atoms as the cluster has
+-- the names are those of as many sites and atoms as the cluster has, and the policy is over as many atoms
 pub record IsNamedBy (c : ClusterId) (talk : TalkValue) : Type 0 where
-  pub sites : length talk.sites ≡ length c.owned
-  pub atoms : length talk.atoms ≡ c.rules.atoms
+  pub sites : length talk.terms.sites ≡ length c.owned
+  pub atoms : length talk.terms.atoms ≡ c.rules.atoms
+  pub policy : length talk.terms.policy.atoms ≡ c.rules.atoms
 
 -- the entry that a pass has made last
 abbrev pub last_of : PassValue → Call → Outcome → Entry
@@ -35,19 +36,19 @@ last_of pass call outcome = record { session = pass.session; seq = pass.made - 1
 pub record IsLast (talk : TalkValue) (pass : PassValue) (call : Call) (outcome : Outcome) : Type 0 where
   pub made : 0 < pass.made
   pub seen : 0 < length pass.front
-  pub fits : FitsEntry (length talk.sites) (length talk.atoms) (last_of pass call outcome)
+  pub fits : FitsEntry (length talk.terms.sites) (length talk.terms.atoms) (last_of pass call outcome)
 
 abbrev pub MayLay : TalkValue → PassValue → Call → Result Outcome Halt → Type 0
 MayLay talk pass call answer = IfOk answer (IsLast talk pass call)
 
 -- the text of the entry is there, or memory for it was wanted; a halt is told
-abbrev pub HasLaid : List (List ℕ) → List (List ℕ) → PassValue → Call → Result Outcome Halt → List ℕ → Result (Option Halt) NoRoom → Type 0
-HasLaid sites atoms pass call (Ok outcome) reply (Ok None) = reply ≡ ended (entry_text sites atoms (length pass.front - 1) (last_of pass call outcome))
-HasLaid sites atoms pass call (Ok outcome) reply (Ok (Some halt)) = ⊥
-HasLaid sites atoms pass call (Ok outcome) reply (Err no_room) = ⊤
-HasLaid sites atoms pass call (Err halt) reply (Ok None) = ⊥
-HasLaid sites atoms pass call (Err halt) reply (Ok (Some told)) = told ≡ halt
-HasLaid sites atoms pass call (Err halt) reply (Err no_room) = ⊥
+abbrev pub HasLaid : Terms → PassValue → Call → Result Outcome Halt → List ℕ → Result (Option Halt) NoRoom → Type 0
+HasLaid terms pass call (Ok outcome) reply (Ok None) = reply ≡ ended (entry_text terms.sites terms.atoms (length pass.front - 1) (last_of pass call outcome))
+HasLaid terms pass call (Ok outcome) reply (Ok (Some halt)) = ⊥
+HasLaid terms pass call (Ok outcome) reply (Err no_room) = ⊤
+HasLaid terms pass call (Err halt) reply (Ok None) = ⊥
+HasLaid terms pass call (Err halt) reply (Ok (Some told)) = told ≡ halt
+HasLaid terms pass call (Err halt) reply (Err no_room) = ⊥
 
 -- this is a beginning of the text with its line end; all of it, or a write has failed
 pub record IsSent (failed : Type 0) (text written : List ℕ) : Type 0 where
@@ -55,26 +56,26 @@ pub record IsSent (failed : Type 0) (text written : List ℕ) : Type 0 where
   pub part : written ++ rest ≡ ended text
   pub whole : (rest ≡ []) ⊎ failed
 
-module _ {D : Type 0} (c : ClusterId) (first : Option (Store D)) (capacity : ℕ) (sites atoms : List (List ℕ)) where
-  -- What a line asks for was answered by this text: a call by that of its entry, which the pass made.
-  abbrev pub IsAnswered : Option Call → PassValue → PassValue → List ℕ → Type 0
-  IsAnswered None before after text = (after ≡ before) × (text ≡ codes "bad-line")
-  IsAnswered (Some call) before after text =
-      (J : List Entry) × (outcome : Outcome) × AnsweredAfter c first capacity J before after call outcome × (text ≡ entry_text sites atoms (length J) (entry_of before call outcome))
+module _ {D : Type 0} (c : ClusterId) (first : Option (Store D)) (capacity : ℕ) (terms : Terms) where
+  -- What a line asks for was answered by this text: a call by that of its entry, which the pass made, and else by its own.
+  abbrev pub IsAnswered : Asked → PassValue → PassValue → List ℕ → Type 0
+  IsAnswered (Err reply) before after text = (after ≡ before) × (text ≡ reply)
+  IsAnswered (Ok call) before after text =
+      (J : List Entry) × (outcome : Outcome) × AnsweredAfter c first capacity J before after call outcome × (text ≡ entry_text terms.sites terms.atoms (length J) (entry_of before call outcome))
 
   -- the call halted
-  abbrev pub IsHalted : Option Call → PassValue → PassValue → Halt → Type 0
-  IsHalted None before after halt = ⊥
-  IsHalted (Some call) before after halt = HaltedAfter c first capacity after.front before after halt
+  abbrev pub IsHalted : Asked → PassValue → PassValue → Halt → Type 0
+  IsHalted (Err reply) before after halt = ⊥
+  IsHalted (Ok call) before after halt = HaltedAfter c first capacity after.front before after halt
 
   -- the reply is there, or memory for it was wanted, or the call halted
-  abbrev pub HasReply : Option Call → PassValue → PassValue → List ℕ → Result (Option Halt) NoRoom → Type 0
+  abbrev pub HasReply : Asked → PassValue → PassValue → List ℕ → Result (Option Halt) NoRoom → Type 0
   HasReply asked before after reply (Ok None) = (text : List ℕ) × IsAnswered asked before after text × (reply ≡ ended text)
   HasReply asked before after reply (Ok (Some halt)) = IsHalted asked before after halt
   HasReply asked before after reply (Err no_room) = (text : List ℕ) × IsAnswered asked before after text
 
   -- a line was answered, or the session has ended with it
-  abbrev pub HasAnswered : Option Call → PassValue → PassValue → List ℕ → Type 0 → Option WorkCause → Type 0
+  abbrev pub HasAnswered : Asked → PassValue → PassValue → List ℕ → Type 0 → Option WorkCause → Type 0
   HasAnswered asked before after written failed None = (text : List ℕ) × IsAnswered asked before after text × (written ≡ ended text)
   HasAnswered asked before after written failed (Some LinkFault) = (text : List ℕ) × IsAnswered asked before after text × IsSent failed text written × failed
   HasAnswered asked before after written failed (Some (Halted halt)) = IsHalted asked before after halt × IsSent failed (halt_text halt) written
@@ -96,13 +97,13 @@ module _ {D : Type 0} (c : ClusterId) (first : Option (Store D)) (capacity : ℕ
     pub session : now.session ≡ before.session
     pub not_fewer : before.made ≤ length (placed_of before.session now.front)
     pub made : now.made ≡ before.made + length (made_since before now)
-    pub in_order : map call_of (made_since before now) ≡ calls_in (asked_in sites atoms lines)
-    pub written_is : written ≡ lines_text (answers sites atoms (asked_in sites atoms lines) (made_since before now))
+    pub in_order : map call_of (made_since before now) ≡ calls_in (asked_in terms before.session lines)
+    pub written_is : written ≡ lines_text (answers terms (asked_in terms before.session lines) (made_since before now))
 
   -- the session has ended by this cause, whatever bytes come behind those that came
   abbrev pub HasEnded : PassValue → PassValue → List ℕ → List ℕ → Type 0 → WorkCause → Type 0
   HasEnded before after came written failed cause =
-      (more : List ℕ) → Served first capacity sites atoms (came ++ more) before after written failed (record { calls = length (made_since before after); cause = cause })
+      (more : List ℕ) → Served first capacity terms (came ++ more) before after written failed (record { calls = length (made_since before after); cause = cause })
 
   -- a piece was answered whole, or the session has ended in it
   abbrev pub GoesOn : PassValue → PassValue → TalkValue → List ℕ → List ℕ → Type 0 → Option WorkCause → Type 0

@@ -1,8 +1,10 @@
 // What a line is answered.
-ghost use Rattle.std.specs.Prelude.{◌≡◌, ◌≤◌, true, codes, length, List, ℕ, None, IfSome, OnOk};
+ghost use Rattle.std.specs.Prelude.{◌≡◌, ◌≤◌, ◌++◌, true, length, List, ℕ, None, IfSome, OnOk};
 ghost use Rattle.std.specs.Io.KnownBytes.{Appends};
 ghost use Rattle.dcr_base.specs.Count.{Rose};
+ghost use Rattle.dcr_text.specs.Cutting.{without_return};
 ghost use Rattle.dcr_journal.specs.Run.{IsInRange};
+ghost use Rattle.dcr_line.specs.CallLine.{call_in};
 ghost use Rattle.dcr_link.specs.Replies.{asked_by, ended, halt_text};
 ghost use Rattle.dcr_link.specs.Talking.{HasAnswered, HasLaid, HasReply, IsNamedBy, MayLay};
 
@@ -35,8 +37,8 @@ impl<'n> Talk<'n> {
         ensures session { pass.new.session ≡ pass.old.session }
         ensures no_fewer { pass.old.made ≤ pass.new.made }
         ensures answered { (written : List ℕ) × Appends (L.taken link.old) (L.taken link.new) written
-            × HasAnswered N.cluster N.first N.capacity self.old.sites self.old.atoms
-            (asked_by self.old.sites self.old.atoms self.old.cutter.bytes) pass.old pass.new written
+            × HasAnswered N.cluster N.first N.capacity self.old.terms
+            (asked_by self.old.terms pass.old.session self.old.cutter.bytes) pass.old pass.new written
             (Rose (L.write_faults link.old) (L.write_faults link.new)) result }
         ensures apart { L.source_side link.new ≡ L.source_side link.old }
         ensures no_fault { result ≡ None → L.write_faults link.new ≡ L.write_faults link.old }
@@ -55,8 +57,8 @@ impl<'n> Talk<'n> {
         }
     }
 
-    // Makes the call that the line asks for, where it is one, and lays the reply ready, or answers the halt where the call
-    // halted. Where memory for the reply could not be had the call was made.
+    // Makes the call that the line asks for, where it is one that the policy allows, and lays the reply ready, or answers the
+    // halt where the call halted. Where memory for the reply could not be had the call was made.
     fn reply_to<D: Disk, G: Gate, N: StoreName<D>, R: Wait>(
         &mut self,
         rt: &R,
@@ -66,13 +68,18 @@ impl<'n> Talk<'n> {
         requires named { IsNamedBy N.cluster self.old }
         requires line { self.old.cutter.is_line ≡ true }
         ensures same { self.new ≡ record self.old { reply = self.new.reply } }
-        ensures reply { HasReply N.cluster N.first N.capacity self.old.sites self.old.atoms
-            (asked_by self.old.sites self.old.atoms self.old.cutter.bytes) pass.old pass.new self.new.reply result }
+        ensures reply { HasReply N.cluster N.first N.capacity self.old.terms
+            (asked_by self.old.terms pass.old.session self.old.cutter.bytes) pass.old pass.new self.new.reply result }
     {
         let Some(call) = self.asked() else {
-            self.say_bad()?;
+            self.say(b"bad-line", b"")?;
             return Ok(None);
         };
+        let policy = self.policy;
+        if let Some(role) = policy.deny(pass.session(), &call) {
+            self.say(b"denied ", role.text().as_bytes())?;
+            return Ok(None);
+        }
         let answer = cluster.call(rt, pass, call);
         self.lay(pass, &call, answer)
     }
@@ -80,8 +87,8 @@ impl<'n> Talk<'n> {
     // The call that the line asks for. None where it is none.
     fn asked(&self) -> Option<Call>
         requires line { self.now.cutter.is_line ≡ true }
-        ensures call { result ≡ asked_by self.now.sites self.now.atoms self.now.cutter.bytes }
-        ensures in_range { IfSome result (λ call. IsInRange (length self.now.sites) (length self.now.atoms) call) }
+        ensures call { result ≡ call_in self.now.terms.sites self.now.terms.atoms (without_return self.now.cutter.bytes) }
+        ensures in_range { IfSome result (λ call. IsInRange (length self.now.terms.sites) (length self.now.terms.atoms) call) }
     {
         read_call(self.cutter.line(), &self.directory)
     }
@@ -93,13 +100,15 @@ impl<'n> Talk<'n> {
         &self.reply
     }
 
-    // Lays the reply to a line that is no call ready.
-    fn say_bad(&mut self) -> Result<(), NoMemory>
+    // Lays the reply to a line for which no call is made ready: these words, and more behind them.
+    fn say(&mut self, words: &[u8], more: &[u8]) -> Result<(), NoMemory>
         ensures same { self.new ≡ record self.old { reply = self.new.reply } }
-        ensures reply { OnOk result (self.new.reply ≡ ended (codes "bad-line")) }
+        ensures reply { OnOk result (self.new.reply ≡ ended (words.now ++ more.now)) }
     {
         self.reply.clear();
-        self.reply.extend_from_slice(b"bad-line\n")?;
+        self.reply.extend_from_slice(words)?;
+        self.reply.extend_from_slice(more)?;
+        self.reply.push(b'\n')?;
         Ok(())
     }
 
@@ -112,7 +121,7 @@ impl<'n> Talk<'n> {
     ) -> Result<Option<Halt>, NoMemory>
         requires { MayLay self.old pass.now call.now answer }
         ensures same { self.new ≡ record self.old { reply = self.new.reply } }
-        ensures reply { HasLaid self.old.sites self.old.atoms pass.now call.now answer self.new.reply result }
+        ensures reply { HasLaid self.old.terms pass.now call.now answer self.new.reply result }
     {
         match answer {
             Ok(outcome) => {

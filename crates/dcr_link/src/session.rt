@@ -1,6 +1,7 @@
-ghost use Rattle.std.specs.Prelude.{◌≡◌, ◌+◌, ◌≤◌, IsSome};
+ghost use Rattle.std.specs.Prelude.{◌≡◌, ◌+◌, ◌≤◌, length, IsSome};
 ghost use Rattle.dcr_graph.specs.GraphValue.{rules_of};
 ghost use Rattle.dcr_cluster.specs.Calls.{Shows};
+ghost use Rattle.dcr_link.specs.Replies.{terms_of};
 ghost use Rattle.dcr_link.specs.Serving.{AnyRose, Serves};
 ghost use Rattle.dcr_link.specs.declared.end.WorkCause.TheVariants.{Ended, LinkFault, Halted};
 
@@ -10,14 +11,16 @@ use dcr_base::{Disk, Gate, Link};
 use dcr_cell::StoreName;
 use dcr_cluster::Cluster;
 use dcr_graph::Graph;
+use dcr_policy::Policy;
 use dcr_proj::Cover;
 use dcr_turn::Pass;
 use std::alloc::Global;
 use std::sync::Wait;
 
 /// Serves the pass's session over a link, whose lines ask for calls by the names of the graph's atoms and the cover's sites,
-/// which are the cluster's. Each whole line is answered by one line before the next is looked at: a call by the text of
-/// its entry, and any other line by `bad-line`. A line has at most 200 bytes before its line end, and a carriage return
+/// which are the cluster's. Each whole line is answered by one line before the next is looked at: a call that the policy
+/// allows to the session by the text of its entry; one that it denies by `denied ROLE`, with the first role that its event
+/// asks for, while no call is made and no lock is taken; and any other line by `bad-line`. A line has at most 200 bytes before its line end, and a carriage return
 /// before that is no part of it; 200,000 lines are answered at most. What comes behind the last line end isn't answered.
 /// It waits for the link and for the cluster's locks, but holds no lock while it waits for the link.
 ///
@@ -34,13 +37,15 @@ pub fn serve_session<D: Disk, G: Gate, N: StoreName<D>, L: Link, R: Wait>(
     pass: &mut Pass<N>,
     graph: &Graph,
     cover: &Cover,
+    policy: &Policy,
     link: &mut L,
 ) -> WorkEnd
     requires graph { rules_of graph.now ≡ N.cluster.rules }
     requires cover { cover.now.owned ≡ N.cluster.owned }
+    requires policy { length policy.now.atoms ≡ N.cluster.rules.atoms }
     ensures session { pass.new.session ≡ pass.old.session }
     ensures calls { pass.new.made ≡ pass.old.made + result.calls }
-    ensures serves { Serves N.first N.capacity cover.now.names graph.now.names pass.old pass.new
+    ensures serves { Serves N.first N.capacity (terms_of cover.now.names graph.now.names policy.now) pass.old pass.new
         (L.left link.old) (L.taken link.old) (L.taken link.new)
         (AnyRose (L.read_faults link.old) (L.read_faults link.new) (L.write_faults link.old) (L.write_faults link.new)) result }
     ensures ended { result.cause ≡ Ended → L.has_ended link.new }
@@ -54,7 +59,7 @@ pub fn serve_session<D: Disk, G: Gate, N: StoreName<D>, L: Link, R: Wait>(
     let made = pass.made();
     // A cover has as many sets as names.
     cover.sites();
-    let Ok(mut talk) = Talk::new(alloc, graph, cover) else {
+    let Ok(mut talk) = Talk::new(alloc, graph, cover, policy) else {
         return WorkEnd {
             calls: 0,
             cause: WorkCause::NoMemory,

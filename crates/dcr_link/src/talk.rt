@@ -3,7 +3,7 @@ ghost use Rattle.std.specs.Io.KnownBytes.{Appends};
 ghost use Rattle.dcr_base.specs.Count.{Rose};
 ghost use Rattle.dcr_journal.specs.Run.{made_by};
 ghost use Rattle.dcr_cluster.specs.Calls.{Shows};
-ghost use Rattle.dcr_link.specs.Replies.{made_since, most_lines};
+ghost use Rattle.dcr_link.specs.Replies.{made_since, most_lines, terms_of};
 ghost use Rattle.dcr_link.specs.Serving.{AnyRose, Serves};
 ghost use Rattle.dcr_link.specs.Talking.{CutsNext, Going, GoesOn, IsNamedBy, bytes_spare};
 ghost use Rattle.dcr_link.specs.declared.end.WorkCause.TheVariants.{Ended, LinkFault, Halted};
@@ -14,6 +14,7 @@ use dcr_cell::StoreName;
 use dcr_cluster::Cluster;
 use dcr_graph::Graph;
 use dcr_line::Directory;
+use dcr_policy::Policy;
 use dcr_proj::Cover;
 use dcr_set::NoMemory;
 use dcr_text::{Cut, LineCutter};
@@ -34,12 +35,13 @@ const PIECE: usize = 4096;
 // Room for a reply that names some hundred atoms.
 const COMMON_REPLY: usize = 4096;
 
-/// What is kept between the lines of a session over a link. Contracts see the names, what came since the last line end, how
-/// many lines were cut off, and the last reply.
+/// What is kept between the lines of a session over a link. Contracts see the names and the policy, what came since the last
+/// line end, how many lines were cut off, and the last reply.
 #[derive(Drop)]
 pub(crate) struct Talk<'n> {
     pub(crate) graph: &'n Graph,
     pub(crate) cover: &'n Cover,
+    pub(crate) policy: &'n Policy,
     pub(crate) directory: Directory<'n>,
     pub(crate) cutter: LineCutter,
     lines: u32,
@@ -57,20 +59,21 @@ impl<'n> Model for Talk<'n> {
 }
 
 impl<'n> Talk<'n> {
-    /// Of a graph and a cover, with nothing come. `NoMemory` where memory could not be had.
+    /// Of a graph, a cover and a policy, with nothing come. `NoMemory` where memory could not be had.
     pub(crate) fn new(
         alloc: Global,
         graph: &'n Graph,
         cover: &'n Cover,
+        policy: &'n Policy,
     ) -> Result<Talk<'n>, NoMemory>
-        ensures sites { IfOk result (λ talk. talk.sites ≡ cover.now.names) }
-        ensures atoms { IfOk result (λ talk. talk.atoms ≡ graph.now.names) }
+        ensures terms { IfOk result (λ talk. talk.terms ≡ terms_of cover.now.names graph.now.names policy.now) }
         ensures lines { IfOk result (λ talk. talk.lines ≡ 0) }
         ensures cutter { IfOk result (λ talk. (talk.cutter.bytes ≡ []) × (talk.cutter.is_line ≡ false) × (talk.cutter.is_long ≡ false)) }
     {
         Ok(Talk {
             graph,
             cover,
+            policy,
             directory: Directory::new(alloc, graph, cover)?,
             cutter: LineCutter::new(alloc, MOST_BYTES)?,
             lines: 0,
@@ -90,7 +93,7 @@ impl<'n> Talk<'n> {
         requires counted { pass.old.made ≡ made_by pass.old.session pass.old.front }
         requires new { (self.old.lines ≡ 0) × (self.old.cutter.bytes ≡ []) × (self.old.cutter.is_line ≡ false) × (self.old.cutter.is_long ≡ false) }
         ensures session { pass.new.session ≡ pass.old.session }
-        ensures serves { Serves N.first N.capacity self.old.sites self.old.atoms pass.old pass.new
+        ensures serves { Serves N.first N.capacity self.old.terms pass.old pass.new
             (L.left link.old) (L.taken link.old) (L.taken link.new)
             (AnyRose (L.read_faults link.old) (L.read_faults link.new) (L.write_faults link.old) (L.write_faults link.new))
             (record { calls = length (made_since pass.old pass.new); cause = result }) }
@@ -127,11 +130,11 @@ impl<'n> Talk<'n> {
         link: &mut L,
     ) -> Option<WorkCause>
         requires named { IsNamedBy N.cluster self.old }
-        ensures names { (self.new.sites ≡ self.old.sites) × (self.new.atoms ≡ self.old.atoms) }
+        ensures terms { self.new.terms ≡ self.old.terms }
         ensures session { pass.new.session ≡ pass.old.session }
-        ensures goes_on { (before : _) (came written : List ℕ) → Going N.cluster N.first N.capacity self.old.sites self.old.atoms before pass.old self.old came written
+        ensures goes_on { (before : _) (came written : List ℕ) → Going N.cluster N.first N.capacity self.old.terms before pass.old self.old came written
             → (more : List ℕ) × Appends (L.taken link.old) (L.taken link.new) more
-            × GoesOn N.cluster N.first N.capacity self.old.sites self.old.atoms before pass.new self.new (came ++ piece.now) (written ++ more)
+            × GoesOn N.cluster N.first N.capacity self.old.terms before pass.new self.new (came ++ piece.now) (written ++ more)
             (Rose (L.write_faults link.old) (L.write_faults link.new)) result }
         ensures no_fewer { pass.old.made ≤ pass.new.made }
         ensures spare { result ≡ None → bytes_spare self.new + length piece.now ≤ bytes_spare self.old }

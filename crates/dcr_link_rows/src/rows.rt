@@ -3,7 +3,7 @@ use crate::links::{Asking, whole};
 use crate::same::same;
 use crate::serving::{Serving, served};
 use dcr_cluster::Halt;
-use dcr_cluster_rows::{HOSPITAL, NO_SESSION};
+use dcr_cluster_rows::{GUARDED, HOSPITAL, NO_SESSION};
 use dcr_link::{WorkCause, WorkEnd};
 use std::alloc::Global;
 use std::process::Abort;
@@ -56,6 +56,14 @@ const ROW_REPLIES: &str = "0 0 0 look doctor executed - pending - included pm,s
 bad-line
 ";
 
+// What the doctor asks of the case in which events ask for roles.
+const ASKED: &[u8] = b"exec nurse gm\nexec doctor pm\nlook nurse\n";
+
+const DENIED: &str = "denied nur
+0 0 0 exec doctor pm done
+1 0 1 look nurse executed - pending gm included s,gm,dt
+";
+
 // What comes over a link in pieces of so many bytes.
 fn in_pieces(bytes: &[u8], step: usize) -> Asking<'_> {
     Asking {
@@ -85,7 +93,7 @@ fn one_session_is_answered_line_by_line(rt: HostRuntime) -> Result<(), Fail> {
     let full = WorkCause::Halted(Halt::Full { capacity: 2 });
     // The case, for how many entries there is room, what is asked, how many calls are made, why the session ends, and what
     // is answered.
-    let rows: [(&str, u32, Asking<'_>, u32, WorkCause, &str); 24] = [
+    let rows: [(&str, u32, Asking<'_>, u32, WorkCause, &str); 29] = [
         // However the bytes come.
         (HOSPITAL, 100, in_pieces(ROW, 1), 2, ENDED, ROW_REPLIES),
         (HOSPITAL, 100, in_pieces(ROW, 2), 2, ENDED, ROW_REPLIES),
@@ -158,6 +166,37 @@ bad-line
 full 2
 ",
         ),
+        // Calls that are denied: no entry is made, whatever the marks, the site and the room say.
+        (GUARDED, 100, whole(ASKED), 2, ENDED, DENIED),
+        (
+            GUARDED,
+            100,
+            whole(b"exec doctor gm\nexec nurse pm\nlook doctor\naccepting\n"),
+            3,
+            ENDED,
+            "denied nur
+0 0 0 exec nurse pm not-here
+1 0 1 look doctor executed - pending - included pm,s
+2 0 2 accepting yes
+",
+        ),
+        (
+            GUARDED,
+            1,
+            whole(b"exec doctor pm\nexec nurse gm\nexec doctor s\n"),
+            1,
+            WorkCause::Halted(Halt::Full { capacity: 1 }),
+            "0 0 0 exec doctor pm done\ndenied nur\nfull 1\n",
+        ),
+        (
+            GUARDED,
+            0,
+            whole(b"exec nurse gm\nexec nurse gm\n"),
+            0,
+            ENDED,
+            "denied nur\ndenied nur\n",
+        ),
+        (GUARDED, 100, with_room(ASKED, 4), 0, FAULT, "deni"),
         // A link that takes no more, one that gives no more, and one that cuts off the last words.
         (
             HOSPITAL,
@@ -238,6 +277,27 @@ fn at_one_site<'a>(sessions: u32, links: &'a [Asking<'a>], failing: &'a [u32]) -
         links,
         failing,
     }
+}
+
+#[test]
+fn a_session_without_a_user_has_no_role(rt: HostRuntime) -> Result<(), Fail> {
+    let two = [
+        whole(b"exec doctor pm\n"),
+        whole(b"exec doctor pm\nexec nurse dt\n"),
+    ];
+    let serving = Serving {
+        text: GUARDED,
+        ..at_one_site(2, &two, &[])
+    };
+    let ends = [
+        (1, ENDED, Some("0 0 0 exec doctor pm done\n")),
+        (
+            1,
+            ENDED,
+            Some("denied doc\n1 1 0 exec nurse dt condition s\n"),
+        ),
+    ];
+    expect(&rt, rt.alloc(), &serving, &ends, 0, false)
 }
 
 #[test]

@@ -1,15 +1,15 @@
 // The sessions of a cluster of a case of its own, over links in memory.
 ghost use Rattle.std.specs.Prelude.{◌≡◌, ◌<◌, ◌≤◌, [], Some};
-ghost use Rattle.dcr_json.specs.Built.{IsCase};
+ghost use Rattle.dcr_roles.specs.Accepted.{IsAccepted};
 ghost use Rattle.dcr_cell.specs.Stored.{MayBegin};
 ghost use Rattle.dcr_cluster_rows.specs.Made.{AreOfCase, cluster_of};
 
 use crate::links::{Asking, Told, door_of, ends_of, links_of};
 use dcr_base::{Disk, OpenGate};
 use dcr_cell::StoreName;
-use dcr_cluster_rows::{Parts, case_of, expect_valid, no_tape, opened, parts_of};
+use dcr_cluster_rows::{Parts, expect_valid, no_tape, opened, parts_of};
 use dcr_fakes::{MemDisk, MemDoor};
-use dcr_json::Case;
+use dcr_roles::{Accepted, read_accepted};
 use dcr_serving::{ServeEnd, serve_sessions};
 use dcr_tape::Store;
 use dcr_turn::{Pass, TurnName};
@@ -58,13 +58,13 @@ pub(crate) fn served<R: Threads + Wait + Sync>(
     if capacity > 200_000 || sessions > 1024 || workers == 0 || workers > 64 {
         return Err(Fail::new("as much as there may be"));
     }
-    let case = case_of(alloc, text)?;
-    let parts = parts_of(alloc, &case, sessions)?;
+    let accepted = read_accepted(alloc, text.as_bytes())?;
+    let parts = parts_of(alloc, &accepted.case, sessions)?;
     let door = door_of(alloc, links, failing)?;
     serve::<Brand, _>(
         rt,
         alloc,
-        &case,
+        &accepted,
         parts,
         no_tape(alloc),
         capacity,
@@ -76,16 +76,16 @@ pub(crate) fn served<R: Threads + Wait + Sync>(
 fn serve<N: StoreName<MemDisk> + Send + Sync, R: Threads + Wait + Sync>(
     rt: &R,
     alloc: Global,
-    case: &Case,
+    accepted: &Accepted,
     parts: Parts,
     store: Store<MemDisk>,
     capacity: u32,
     workers: u32,
     door: MemDoor,
 ) -> Result<Came, Fail>
-    requires case { IsCase case.now }
-    requires parts { AreOfCase case.now parts.blank parts.sites.items }
-    requires cluster { N.cluster ≡ cluster_of case.now [] }
+    requires accepted { IsAccepted accepted.now }
+    requires parts { AreOfCase accepted.now.case parts.blank parts.sites.items }
+    requires cluster { N.cluster ≡ cluster_of accepted.now.case [] }
     requires turn { N.turn ≡ parts.blank }
     requires capacity { N.capacity ≡ capacity }
     requires most { capacity ≤ 200000 }
@@ -93,6 +93,7 @@ fn serve<N: StoreName<MemDisk> + Send + Sync, R: Threads + Wait + Sync>(
     requires begins { MayBegin ⟦<MemDisk as Disk>⟧.view [] store }
     requires workers { (0 < workers) × (workers ≤ 64) }
 {
+    let case = &accepted.case;
     let opened = opened::<_, _, N>(alloc, case, parts, capacity, store, &[], OpenGate);
     let Ok((cluster, passes)) = opened else {
         return Err(Fail::new("the cluster is opened"));
@@ -104,6 +105,7 @@ fn serve<N: StoreName<MemDisk> + Send + Sync, R: Threads + Wait + Sync>(
         passes,
         &case.graph,
         &case.cover,
+        &accepted.policy,
         door,
         workers,
     );

@@ -4,7 +4,7 @@ use crate::whole::{answer, empty_disk, words_of};
 use dcr_app::{Status, WorkCause, WorkEnd, dcr};
 use dcr_base::{Gate, OpenGate, StdSink, StdSource};
 use dcr_cluster::Halt;
-use dcr_cluster_rows::{HOSPITAL, NO_SESSION, TWO_SITES};
+use dcr_cluster_rows::{GUARDED, HOSPITAL, NO_SESSION, TWO_SITES};
 use dcr_fakes::{Hold, HoldGate, MemDisk};
 use dcr_link_rows::{Asking, Told, door_of, ends_of, links_of, whole};
 use std::alloc::{AllocError, Global};
@@ -242,6 +242,44 @@ end 1
         // Without `--store` the disk isn't called.
         same(&rt, &disk.calls().len(), &0, row.rest);
     }
+    Ok(())
+}
+
+// The report of the doctor's calls in the case in which events ask for roles; of the one that is denied nothing stands there.
+static GUARDED_REPORT: &str = r#"dcr 2
+graph {"events":[{"label":"pm","name":"pm"},{"label":"s","name":"s"},{"label":"gm","name":"gm"},{"label":"dt","name":"dt"}],"relations":[["condition","pm","s"],["condition","s","gm"],["condition","s","dt"],["response","pm","s"],["response","pm","gm"],["response","dt","s"],["exclude","dt","gm"],["include","s","gm"]]}
+cover [{"events":["pm","s"],"site":"doctor"},{"events":["gm","dt"],"site":"nurse"}]
+open executed - pending - included pm,s,gm,dt
+0 0 0 exec doctor pm done
+1 0 1 look nurse executed - pending gm included s,gm,dt
+site doctor executed pm pending s included pm,s
+site nurse executed - pending gm included s,gm,dt
+verdict waits s
+end 2
+"#;
+
+#[test]
+fn a_call_that_is_denied_makes_no_entry(rt: HostRuntime) -> Result<(), Fail> {
+    let alloc = rt.alloc();
+    let serving = Serving {
+        file: GUARDED,
+        words: NONE.words,
+        links: &[whole(b"exec nurse gm\nexec doctor pm\nlook nurse\n")],
+        failing: &[],
+    };
+    let came = served(&rt, alloc, &serving, empty_disk(alloc), OpenGate)?;
+    same(&rt, &came.status, &Status::Done, "a denied call");
+    same_text(
+        &rt,
+        str::from_utf8(&came.report)?,
+        GUARDED_REPORT,
+        "the report",
+    );
+    let taken = "denied nur
+0 0 0 exec doctor pm done
+1 0 1 look nurse executed - pending gm included s,gm,dt
+";
+    expect_ends(&rt, &came.ends, &[(taken, 2, WorkCause::Ended)]);
     Ok(())
 }
 

@@ -15,7 +15,7 @@ use Rattle.dcr_turn.specs.PassValue.{HasMadeAll, PassValue}
 use Rattle.dcr_cluster.specs.Calls.{Shows}
 use Rattle.dcr_cluster.specs.declared.halt.Halt.{Halt}
 use Rattle.dcr_cluster.specs.declared.halt.Halt.TheVariants.{Full, Stopped}
-use Rattle.dcr_link.specs.Replies.{Placed, call_of, made_since, replies}
+use Rattle.dcr_link.specs.Replies.{Placed, Terms, call_of, made_since, replies}
 use Rattle.dcr_link.specs.Serving.{EndsBy, Served}
 use Rattle.dcr_link.specs.declared.end.WorkCause.{WorkCause}
 use Rattle.dcr_link.specs.declared.end.WorkCause.TheVariants.{Ended, LinkFault, LongLine, ManyLines, Halted, NoMemory}
@@ -59,7 +59,7 @@ shows_in G C M first capacity pass H halt all legal few shows =
 fewer_too : (m n k : ℕ) → m ≡ n → n < k → m < k
 fewer_too m n k same fewer = omega (arith, same, fewer)
 
-module _ {D : Type 0} (first : Option (Store D)) (capacity : ℕ) (sites atoms : List (List ℕ)) (asked : List ℕ) (pass : PassValue) (H : List Entry) (written : List ℕ) (failed : Type 0)
+module _ {D : Type 0} (first : Option (Store D)) (capacity : ℕ) (terms : Terms) (asked : List ℕ) (pass : PassValue) (H : List Entry) (written : List ℕ) (failed : Type 0)
     (all : HasMadeAll pass H) (shows : (halt : Halt) → Shows first capacity pass.front halt → Shows first capacity H halt) where
   abbrev pub before : PassValue
   before = new_pass pass.session
@@ -73,14 +73,14 @@ module _ {D : Type 0} (first : Option (Store D)) (capacity : ℕ) (sites atoms :
   many : (n : ℕ) → length (made_since before pass) ≡ n → length (made_since before after) ≡ n
   many n is = ap (λ (l : List Placed). length l) same ∙ is
 
-  said : (cause : WorkCause) (text : List ℕ) → text ≡ replies sites atoms asked (made_since before pass) cause → text ≡ replies sites atoms asked (made_since before after) cause
-  said cause text is = is ∙ ap (λ (l : List Placed). replies sites atoms asked l cause) (sym same)
+  said : (cause : WorkCause) (text : List ℕ) → text ≡ replies terms pass.session asked (made_since before pass) cause → text ≡ replies terms pass.session asked (made_since before after) cause
+  said cause text is = is ∙ ap (λ (l : List Placed). replies terms pass.session asked l cause) (sym same)
 
-  said_or : (cause : WorkCause) → (written ≡ replies sites atoms asked (made_since before pass) cause) ⊎ failed → (written ≡ replies sites atoms asked (made_since before after) cause) ⊎ failed
+  said_or : (cause : WorkCause) → (written ≡ replies terms pass.session asked (made_since before pass) cause) ⊎ failed → (written ≡ replies terms pass.session asked (made_since before after) cause) ⊎ failed
   said_or cause (inl is) = inl (said cause written is)
   said_or cause (inr fault) = inr fault
 
-  ends_in : (cause : WorkCause) → EndsBy first capacity sites atoms asked before pass written failed cause → EndsBy first capacity sites atoms asked before after written failed cause
+  ends_in : (cause : WorkCause) → EndsBy first capacity terms asked before pass written failed cause → EndsBy first capacity terms asked before after written failed cause
   ends_in Ended ends = (ends.0, many _ ends.1, said Ended written ends.2)
   ends_in LinkFault ends = ends
   ends_in LongLine ends = (ends.0, many _ ends.1, said_or LongLine ends.2)
@@ -88,7 +88,7 @@ module _ {D : Type 0} (first : Option (Store D)) (capacity : ℕ) (sites atoms :
   ends_in (Halted halt) ends = (fewer_too _ _ _ (ap (λ (l : List Placed). length l) same) ends.0, shows halt ends.1, said_or (Halted halt) ends.2)
   ends_in NoMemory ends = tt
 
-  pub served_in : (end : WorkEnd) → Served first capacity sites atoms asked before pass written failed end → Served first capacity sites atoms asked before after written failed end
+  pub served_in : (end : WorkEnd) → Served first capacity terms asked before pass written failed end → Served first capacity terms asked before after written failed end
   served_in end served = record {
     calls = served.calls ∙ sym (ap (λ (l : List Placed). length l) same);
     in_order = ap (map call_of) same ∙ served.in_order;
@@ -98,10 +98,10 @@ module _ {D : Type 0} (first : Option (Store D)) (capacity : ℕ) (sites atoms :
   }
 
 -- the session as the history tells it
-pub session_in : {D L R : Type 0} (tells : Tells L R) (G : Rules) (C : List Set) (M : Marking) (first : Option (Store D)) (capacity : ℕ) (sites atoms : List (List ℕ)) (links : Option (List L))
+pub session_in : {D L R : Type 0} (tells : Tells L R) (G : Rules) (C : List Set) (M : Marking) (first : Option (Store D)) (capacity : ℕ) (terms : Terms) (links : Option (List L))
     (pass : PassValue) (end : LinkEnd L R) (H : List Entry) → HasMadeAll pass H → IsLegal G C M H → length H ≤ capacity
-    → IsServedOf tells first capacity sites atoms links pass end → IsServedOf tells first capacity sites atoms links (pass_in H pass.session) end
-session_in tells G C M first capacity sites atoms links pass end H all legal few over =
+    → IsServedOf tells first capacity terms links pass end → IsServedOf tells first capacity terms links (pass_in H pass.session) end
+session_in tells G C M first capacity terms links pass end H all legal few over =
     let shows : (halt : Halt) → Shows first capacity pass.front halt → Shows first capacity H halt = (λ halt. shows_in G C M first capacity pass H halt all legal few) in
     record {
       link = over.link;
@@ -111,7 +111,7 @@ session_in tells G C M first capacity sites atoms links pass end H all legal few
         calls = over.served.calls ∙ all.made;
         serves = λ asked had is_left is_taken.
             let told = over.served.serves asked had is_left is_taken in
-            (told.0, told.1, served_in first capacity sites atoms asked pass H told.0 (HasFailed tells end.rest) all shows end.end told.2);
+            (told.0, told.1, served_in first capacity terms asked pass H told.0 (HasFailed tells end.rest) all shows end.end told.2);
         ended = over.served.ended;
         fault = over.served.fault;
         halted = λ halt is. shows halt (over.served.halted halt is);

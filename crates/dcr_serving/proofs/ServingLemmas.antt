@@ -9,6 +9,7 @@ use Rattle.std.proofs.lemmas.List.FromFn.{length-map-range_with_len, map-range_w
 use Rattle.dcr_base.specs.Door.{GivesNext}
 use Rattle.dcr_tape.specs.declared.tape.Store.{Store}
 use Rattle.dcr_turn.specs.PassValue.{PassValue, new_passes}
+use Rattle.dcr_link.specs.Replies.{Terms}
 use Rattle.dcr_serve.specs.Left.{numbers_from, AreAllButFirst, HasNumber}
 use Rattle.dcr_serve.specs.declared.stand.DoorStand.{DoorStand}
 use Rattle.dcr_serve.specs.declared.stand.DoorStand.TheVariants.{Open, Shut, Failed}
@@ -47,7 +48,7 @@ numbers_more n =
     ap (range_with_len 0) longer ∙ sym (map-id (range_with_len 0 (n + 1))) ∙ map-range_with_len_more (λ (k : ℕ). k) 0 n n (omega arith)
     ∙ ap (λ (l : List ℕ). l ++ n ∷ []) (map-id (range_with_len 0 n)) ∙ ap (λ (k : ℕ). range_with_len 0 k ++ n ∷ []) (sym same)
 
-module _ {D L R : Type 0} (tells : Tells L R) (first : Option (Store D)) (capacity : ℕ) (sites atoms : List (List ℕ)) (links : Option (List L)) where
+module _ {D L R : Type 0} (tells : Tells L R) (first : Option (Store D)) (capacity : ℕ) (terms : Terms) (links : Option (List L)) where
   abbrev pub Pair : Type 0
   Pair = PassValue × LinkEnd L R
 
@@ -58,11 +59,11 @@ module _ {D L R : Type 0} (tells : Tells L R) (first : Option (Store D)) (capaci
   end_of one = one.1
 
   abbrev pub Each : Pair → Type 0
-  Each one = IsServedOf tells first capacity sites atoms links one.0 one.1
+  Each one = IsServedOf tells first capacity terms links one.0 one.1
 
   -- all of so many were served
   pub served_all : (served : List Pair) (n : ℕ) → length served ≡ n → map (λ (one : Pair). one.0.session) served ≡ numbers_from 0 n → All Each served
-      → AreServed tells first capacity sites atoms links n (map pass_of served) (map end_of served)
+      → AreServed tells first capacity terms links n (map pass_of served) (map end_of served)
   served_all served n many in_order each = record {
     served = served;
     within = omega (arith, many);
@@ -73,9 +74,9 @@ module _ {D L R : Type 0} (tells : Tells L R) (first : Option (Store D)) (capaci
   }
 
   -- the next one was served too
-  pub served_more : (n : ℕ) (passes : List PassValue) (ends : List (LinkEnd L R)) (pass : PassValue) (end : LinkEnd L R) → AreServed tells first capacity sites atoms links n passes ends
-      → length ends ≡ n → pass.session ≡ n → IsServedOf tells first capacity sites atoms links pass end
-      → AreServed tells first capacity sites atoms links (n + 1) (passes ++ pass ∷ []) (ends ++ end ∷ [])
+  pub served_more : (n : ℕ) (passes : List PassValue) (ends : List (LinkEnd L R)) (pass : PassValue) (end : LinkEnd L R) → AreServed tells first capacity terms links n passes ends
+      → length ends ≡ n → pass.session ≡ n → IsServedOf tells first capacity terms links pass end
+      → AreServed tells first capacity terms links (n + 1) (passes ++ pass ∷ []) (ends ++ end ∷ [])
   served_more n passes ends pass end before all its served =
       let one : Pair = (pass, end) in
       let many : length before.served ≡ n = sym (length-map before.served end_of) ∙ ap (λ (l : List (LinkEnd L R)). length l) (sym before.ends) ∙ all in
@@ -88,14 +89,14 @@ module _ {D L R : Type 0} (tells : Tells L R) (first : Option (Store D)) (capaci
       ∙ ap (λ (k : ℕ). numbers_from 0 n ++ k ∷ []) its
       ∙ sym (numbers_more n))
       (All-push Each before.served one before.each served) in
-      subst (λ (l : List (LinkEnd L R)). AreServed tells first capacity sites atoms links (n + 1) (passes ++ pass ∷ []) l)
+      subst (λ (l : List (LinkEnd L R)). AreServed tells first capacity terms links (n + 1) (passes ++ pass ∷ []) l)
       (map-append end_of before.served (one ∷ []) ∙ ap (λ (l : List (LinkEnd L R)). l ++ end ∷ []) (sym before.ends))
-      (subst (λ (l : List PassValue). AreServed tells first capacity sites atoms links (n + 1) l (map end_of (before.served ++ one ∷ [])))
+      (subst (λ (l : List PassValue). AreServed tells first capacity terms links (n + 1) l (map end_of (before.served ++ one ∷ [])))
       (map-append pass_of before.served (one ∷ []) ∙ ap (λ (l : List PassValue). l ++ pass ∷ []) (sym passes_are)) after)
 
   -- the next one was not served
-  pub served_idle : (n : ℕ) (passes : List PassValue) (ends : List (LinkEnd L R)) (pass : PassValue) → AreServed tells first capacity sites atoms links n passes ends
-      → pass ≡ new_pass n → AreServed tells first capacity sites atoms links (n + 1) (passes ++ pass ∷ []) ends
+  pub served_idle : (n : ℕ) (passes : List PassValue) (ends : List (LinkEnd L R)) (pass : PassValue) → AreServed tells first capacity terms links n passes ends
+      → pass ≡ new_pass n → AreServed tells first capacity terms links (n + 1) (passes ++ pass ∷ []) ends
   served_idle n passes ends pass before is = record {
     served = before.served;
     within = (let within = before.within in omega (arith, within));
@@ -110,13 +111,13 @@ module _ {D L R : Type 0} (tells : Tells L R) (first : Option (Store D)) (capaci
   }
 
 -- where none was served
-pub served_none : {D L R : Type 0} (tells : Tells L R) (first : Option (Store D)) (capacity : ℕ) (sites atoms : List (List ℕ)) (links : Option (List L)) (n : ℕ) (passes : List PassValue) (ends : List (LinkEnd L R))
-    → passes ≡ new_passes n → ends ≡ [] → AreServed tells first capacity sites atoms links n passes ends
-served_none tells first capacity sites atoms links n passes ends new none = record {
+pub served_none : {D L R : Type 0} (tells : Tells L R) (first : Option (Store D)) (capacity : ℕ) (terms : Terms) (links : Option (List L)) (n : ℕ) (passes : List PassValue) (ends : List (LinkEnd L R))
+    → passes ≡ new_passes n → ends ≡ [] → AreServed tells first capacity terms links n passes ends
+served_none tells first capacity terms links n passes ends new none = record {
   served = [];
   within = omega arith;
   in_order = refl;
-  each = All-nil (λ one. IsServedOf tells first capacity sites atoms links one.0 one.1);
+  each = All-nil (λ one. IsServedOf tells first capacity terms links one.0 one.1);
   passes = new;
   ends = none;
 }
@@ -164,35 +165,35 @@ stands_given its is_shut faults links first given before after link stood gives 
 
 -- ---- on the way through the sessions
 
-module _ {D B L R : Type 0} (tells : Tells L R) (first : Option (Store D)) (capacity : ℕ) (sites atoms : List (List ℕ)) (its : B → Option (List L)) (is_shut : B → Type 0) (faults : B → ℕ)
+module _ {D B L R : Type 0} (tells : Tells L R) (first : Option (Store D)) (capacity : ℕ) (terms : Terms) (its : B → Option (List L)) (is_shut : B → Type 0) (faults : B → ℕ)
     (links : Option (List L)) (count : ℕ) where
   -- so many have had their turn, and while the door is open each had a link
   pub record Way (passes : List PassValue) (ends : List (LinkEnd L R)) (stand : DoorStand) (door : B) : Type 0 where
-    pub served : AreServed tells first capacity sites atoms links (length passes) passes ends
+    pub served : AreServed tells first capacity terms links (length passes) passes ends
     pub stands : Stands its is_shut faults links count (length ends) stand door
     pub still_open : stand ≡ Open → length ends ≡ length passes
 
   -- the next one had a link
   pub way_served : (passes passes_after : List PassValue) (ends ends_after : List (LinkEnd L R)) (stand stand_after : DoorStand) (before after : B) (link : L) (pass : PassValue) (end : LinkEnd L R)
       → Way passes ends stand before → stand ≡ Open → Stands its is_shut faults links count (length ends + 1) stand_after after × HasNumber links (length ends) link
-      → pass.session ≡ length passes → end.session ≡ pass.session → IsServed tells first capacity sites atoms link pass end.end end.rest
+      → pass.session ≡ length passes → end.session ≡ pass.session → IsServed tells first capacity terms link pass end.end end.rest
       → passes_after ≡ passes ++ pass ∷ [] → ends_after ≡ ends ++ end ∷ [] → Way passes_after ends_after stand_after after
   way_served passes passes_after ends ends_after stand stand_after before after link pass end way is given number session served passes_are ends_are =
       let all : length ends ≡ length passes = way.still_open is in
       let longer : length passes_after ≡ length passes + 1 = ap (λ (l : List PassValue). length l) passes_are ∙ length-append passes (pass ∷ []) in
       let more : length ends_after ≡ length ends + 1 = ap (λ (l : List (LinkEnd L R)). length l) ends_are ∙ length-append ends (end ∷ []) in
-      let over : IsServedOf tells first capacity sites atoms links pass end = record {
+      let over : IsServedOf tells first capacity terms links pass end = record {
         link = link;
         number = subst (λ (n : ℕ). HasNumber links n link) (all ∙ sym number) given.1;
         session = session;
         served = served;
       } in
-      let step = served_more tells first capacity sites atoms links (length passes) passes ends pass end way.served all number over in
+      let step = served_more tells first capacity terms links (length passes) passes ends pass end way.served all number over in
       record {
         served =
-            subst (λ (n : ℕ). AreServed tells first capacity sites atoms links n passes_after ends_after) (sym longer)
-            (subst (λ (l : List PassValue). AreServed tells first capacity sites atoms links (length passes + 1) l ends_after) (sym passes_are)
-            (subst (λ (l : List (LinkEnd L R)). AreServed tells first capacity sites atoms links (length passes + 1) (passes ++ pass ∷ []) l) (sym ends_are) step));
+            subst (λ (n : ℕ). AreServed tells first capacity terms links n passes_after ends_after) (sym longer)
+            (subst (λ (l : List PassValue). AreServed tells first capacity terms links (length passes + 1) l ends_after) (sym passes_are)
+            (subst (λ (l : List (LinkEnd L R)). AreServed tells first capacity terms links (length passes + 1) (passes ++ pass ∷ []) l) (sym ends_are) step));
         stands = subst (λ (n : ℕ). Stands its is_shut faults links count n stand_after after) (sym more) given.0;
         still_open = λ still. omega (arith, longer, more, all);
       }
@@ -203,11 +204,11 @@ module _ {D B L R : Type 0} (tells : Tells L R) (first : Option (Store D)) (capa
       → pass ≡ new_pass (length passes) → passes_after ≡ passes ++ pass ∷ [] → Way passes_after ends stand_after after
   way_idle passes passes_after ends stand stand_after before after pass way given not_open new passes_are =
       let longer : length passes_after ≡ length passes + 1 = ap (λ (l : List PassValue). length l) passes_are ∙ length-append passes (pass ∷ []) in
-      let step = served_idle tells first capacity sites atoms links (length passes) passes ends pass way.served new in
+      let step = served_idle tells first capacity terms links (length passes) passes ends pass way.served new in
       record {
         served =
-            subst (λ (n : ℕ). AreServed tells first capacity sites atoms links n passes_after ends) (sym longer)
-            (subst (λ (l : List PassValue). AreServed tells first capacity sites atoms links (length passes + 1) l ends) (sym passes_are) step);
+            subst (λ (n : ℕ). AreServed tells first capacity terms links n passes_after ends) (sym longer)
+            (subst (λ (l : List PassValue). AreServed tells first capacity terms links (length passes + 1) l ends) (sym passes_are) step);
         stands = given;
         still_open = λ still. absurd (not_open still);
       }
@@ -224,19 +225,19 @@ pub calls_from_none : (before after calls : ℕ) → before ≡ 0 → after ≡ 
 calls_from_none before after calls none made = omega (arith, none, made)
 
 -- from the first call on of a link that had failed in nothing, as what stays of it tells
-pub serves_from_new : {D : Type 0} (first : Option (Store D)) (capacity : ℕ) (sites atoms : List (List ℕ)) (session : ℕ) (before pass : PassValue) (left taken now_taken sent : Option (List ℕ))
+pub serves_from_new : {D : Type 0} (first : Option (Store D)) (capacity : ℕ) (terms : Terms) (session : ℕ) (before pass : PassValue) (left taken now_taken sent : Option (List ℕ))
     (reads reads_after writes writes_after failed_reads failed_writes : ℕ) (end : WorkEnd)
     → before ≡ new_pass session → pass.session ≡ before.session → sent ≡ now_taken → reads ≡ 0 → writes ≡ 0 → failed_reads ≡ reads_after → failed_writes ≡ writes_after
-    → Serves first capacity sites atoms before pass left taken now_taken (AnyRose reads reads_after writes writes_after) end
-    → Serves first capacity sites atoms (new_pass pass.session) pass left taken sent (AnyRose 0 failed_reads 0 failed_writes) end
-serves_from_new first capacity sites atoms session before pass left taken now_taken sent reads reads_after writes writes_after failed_reads failed_writes end new same sent_is no_reads no_writes reads_are writes_are serves =
+    → Serves first capacity terms before pass left taken now_taken (AnyRose reads reads_after writes writes_after) end
+    → Serves first capacity terms (new_pass pass.session) pass left taken sent (AnyRose 0 failed_reads 0 failed_writes) end
+serves_from_new first capacity terms session before pass left taken now_taken sent reads reads_after writes writes_after failed_reads failed_writes end new same sent_is no_reads no_writes reads_are writes_are serves =
     let its : session ≡ pass.session = sym (ap (λ (p : PassValue). p.session) new) ∙ sym same in
-    subst (λ (s : Option (List ℕ)). Serves first capacity sites atoms (new_pass pass.session) pass left taken s (AnyRose 0 failed_reads 0 failed_writes) end) (sym sent_is)
-    (subst (λ (b : PassValue). Serves first capacity sites atoms b pass left taken now_taken (AnyRose 0 failed_reads 0 failed_writes) end) (new ∙ ap new_pass its)
-    (subst (λ (n : ℕ). Serves first capacity sites atoms before pass left taken now_taken (AnyRose n failed_reads 0 failed_writes) end) no_reads
-    (subst (λ (n : ℕ). Serves first capacity sites atoms before pass left taken now_taken (AnyRose reads failed_reads n failed_writes) end) no_writes
-    (subst (λ (n : ℕ). Serves first capacity sites atoms before pass left taken now_taken (AnyRose reads n writes failed_writes) end) (sym reads_are)
-    (subst (λ (n : ℕ). Serves first capacity sites atoms before pass left taken now_taken (AnyRose reads reads_after writes n) end) (sym writes_are) serves)))))
+    subst (λ (s : Option (List ℕ)). Serves first capacity terms (new_pass pass.session) pass left taken s (AnyRose 0 failed_reads 0 failed_writes) end) (sym sent_is)
+    (subst (λ (b : PassValue). Serves first capacity terms b pass left taken now_taken (AnyRose 0 failed_reads 0 failed_writes) end) (new ∙ ap new_pass its)
+    (subst (λ (n : ℕ). Serves first capacity terms before pass left taken now_taken (AnyRose n failed_reads 0 failed_writes) end) no_reads
+    (subst (λ (n : ℕ). Serves first capacity terms before pass left taken now_taken (AnyRose reads failed_reads n failed_writes) end) no_writes
+    (subst (λ (n : ℕ). Serves first capacity terms before pass left taken now_taken (AnyRose reads n writes failed_writes) end) (sym reads_are)
+    (subst (λ (n : ℕ). Serves first capacity terms before pass left taken now_taken (AnyRose reads reads_after writes n) end) (sym writes_are) serves)))))
 
 pub rose_from_none : (reads reads_after writes writes_after failed_reads failed_writes : ℕ) → reads ≡ 0 → writes ≡ 0 → failed_reads ≡ reads_after → failed_writes ≡ writes_after
     → AnyRose reads reads_after writes writes_after → AnyRose 0 failed_reads 0 failed_writes
@@ -248,14 +249,14 @@ rose_from_none reads reads_after writes writes_after failed_reads failed_writes 
 
 -- ---- what the workers have served
 
-module _ {D L N R : Type 0} (tells : Tells L R) (first : Option (Store D)) (capacity : ℕ) (sites atoms : List (List ℕ)) (links : Option (List L)) where
+module _ {D L N R : Type 0} (tells : Tells L R) (first : Option (Store D)) (capacity : ℕ) (terms : Terms) (links : Option (List L)) where
   pub served_first : (records : List (Record L N R)) → map (λ (one : Record L N R). one.pass.session) records ≡ numbers_from 0 (length records)
-      → All (λ (one : Record L N R). IsServedOf tells first capacity sites atoms links one.pass one.end) records
-      → AreServed tells first capacity sites atoms links (length records) (map (λ (one : Record L N R). one.pass) records) (map (λ (one : Record L N R). one.end) records)
+      → All (λ (one : Record L N R). IsServedOf tells first capacity terms links one.pass one.end) records
+      → AreServed tells first capacity terms links (length records) (map (λ (one : Record L N R). one.pass) records) (map (λ (one : Record L N R). one.end) records)
   served_first records in_order each =
       let pair : Record L N R → PassValue × LinkEnd L R = (λ one. (one.pass, one.end)) in
-      let all = served_all tells first capacity sites atoms links (map pair records) (length records) (length-map records pair)
+      let all = served_all tells first capacity terms links (map pair records) (length records) (length-map records pair)
       (map-map (λ (one : PassValue × LinkEnd L R). one.0.session) pair records ∙ in_order)
-      (All-map (λ (one : PassValue × LinkEnd L R). IsServedOf tells first capacity sites atoms links one.0 one.1) pair records each) in
-      subst (λ (l : List (LinkEnd L R)). AreServed tells first capacity sites atoms links (length records) (map (λ (one : Record L N R). one.pass) records) l) (map-map (λ (one : PassValue × LinkEnd L R). one.1) pair records)
-      (subst (λ (l : List PassValue). AreServed tells first capacity sites atoms links (length records) l (map (λ (one : PassValue × LinkEnd L R). one.1) (map pair records))) (map-map (λ (one : PassValue × LinkEnd L R). one.0) pair records) all)
+      (All-map (λ (one : PassValue × LinkEnd L R). IsServedOf tells first capacity terms links one.0 one.1) pair records each) in
+      subst (λ (l : List (LinkEnd L R)). AreServed tells first capacity terms links (length records) (map (λ (one : Record L N R). one.pass) records) l) (map-map (λ (one : PassValue × LinkEnd L R). one.1) pair records)
+      (subst (λ (l : List PassValue). AreServed tells first capacity terms links (length records) l (map (λ (one : PassValue × LinkEnd L R). one.1) (map pair records))) (map-map (λ (one : PassValue × LinkEnd L R). one.0) pair records) all)

@@ -7,6 +7,7 @@ use Rattle.std.proofs.lemmas.List.FromFn.{length-range_with_len}
 use Rattle.dcr_base.specs.Count.{Rose}
 use Rattle.dcr_tape.specs.declared.tape.Store.{Store}
 use Rattle.dcr_turn.specs.PassValue.{PassValue, new_passes}
+use Rattle.dcr_link.specs.Replies.{Terms}
 use Rattle.dcr_serve.specs.Left.{AreAllButFirst, numbers_from}
 use Rattle.dcr_serve.specs.declared.stand.DoorStand.{DoorStand}
 use Rattle.dcr_serve.specs.declared.stand.DoorStand.TheVariants.{Failed, Open}
@@ -85,16 +86,16 @@ module _ {L N R : Type 0} (slots : List (Option (Record L N R))) where
       are ∙ ap (λ (k : ℕ). numbers_from k m) (sym many) ∙ ap (numbers_from passes) (let all : m ≡ passes + length left = omega (arith, many, total, same) in all)
 
   -- those that were served at the desk are the first ones of all
-  pub way_after : {D B : Type 0} (tells : Tells L R) (first : Option (Store D)) (capacity : ℕ) (sites atoms : List (List ℕ)) (its : B → Option (List L)) (is_shut : B → Type 0) (faults : B → ℕ)
+  pub way_after : {D B : Type 0} (tells : Tells L R) (first : Option (Store D)) (capacity : ℕ) (terms : Terms) (its : B → Option (List L)) (is_shut : B → Type 0) (faults : B → ℕ)
       (links : Option (List L)) (count : ℕ) (left : List PassValue) (sessions seats n : ℕ) (passes : List PassValue) (ends : List (LinkEnd L R)) (stand : DoorStand) (door : B)
-      → AreFirst left sessions seats n → AreTaken passes ends → All (λ (one : Record L N R). IsServedOf tells first capacity sites atoms links one.pass one.end) (filled slots)
-      → Stands its is_shut faults links count (length (filled slots)) stand door → Way tells first capacity sites atoms its is_shut faults links count passes ends stand door
-  way_after tells first capacity sites atoms its is_shut faults links count left sessions seats n passes ends stand door are taken each stands = record {
+      → AreFirst left sessions seats n → AreTaken passes ends → All (λ (one : Record L N R). IsServedOf tells first capacity terms links one.pass one.end) (filled slots)
+      → Stands its is_shut faults links count (length (filled slots)) stand door → Way tells first capacity terms its is_shut faults links count passes ends stand door
+  way_after tells first capacity terms its is_shut faults links count left sessions seats n passes ends stand door are taken each stands = record {
     served =
-        subst (λ (k : ℕ). AreServed tells first capacity sites atoms links k passes ends) (sym taken.passes_many)
-        (subst (λ (l : List PassValue). AreServed tells first capacity sites atoms links (length (filled slots)) l ends) (sym taken.passes_are)
-        (subst (λ (l : List (LinkEnd L R)). AreServed tells first capacity sites atoms links (length (filled slots)) (map (λ (one : Record L N R). one.pass) (filled slots)) l) (sym taken.ends_are)
-        (served_first tells first capacity sites atoms links (filled slots) are.numbers each)));
+        subst (λ (k : ℕ). AreServed tells first capacity terms links k passes ends) (sym taken.passes_many)
+        (subst (λ (l : List PassValue). AreServed tells first capacity terms links (length (filled slots)) l ends) (sym taken.passes_are)
+        (subst (λ (l : List (LinkEnd L R)). AreServed tells first capacity terms links (length (filled slots)) (map (λ (one : Record L N R). one.pass) (filled slots)) l) (sym taken.ends_are)
+        (served_first tells first capacity terms links (filled slots) are.numbers each)));
     stands = subst (λ (k : ℕ). Stands its is_shut faults links count k stand door) (sym taken.ends_many) stands;
     still_open = λ is. taken.ends_many ∙ sym taken.passes_many;
   }

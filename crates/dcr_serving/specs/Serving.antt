@@ -1,5 +1,5 @@
 -- How the sessions of a cluster are served over the links of a door.
-use Rattle.std.specs.Prelude.{◌≡◌, ◌≢◌, ◌⊎◌, ℕ, ◌<◌, ◌≤◌, ◌++◌, Bool, false, IsTrue, List, [], length, map, drop, Option, IsSome}
+use Rattle.std.specs.Prelude.{◌≡◌, ◌≢◌, ◌⊎◌, ℕ, ◌≤◌, ◌++◌, Bool, false, IsTrue, List, [], length, map, drop, Option, IsSome}
 use Rattle.std.specs.List.{All, Any}
 use Rattle.std.specs.Io.KnownBytes.{IsAtEnd}
 use Rattle.dcr_base.specs.Count.{Rose}
@@ -7,6 +7,7 @@ use Rattle.dcr_tape.specs.declared.tape.Store.{Store}
 use Rattle.dcr_turn.specs.PassValue.{PassValue, new_passes}
 use Rattle.dcr_cluster.specs.Calls.{Shows}
 use Rattle.dcr_cluster.specs.declared.halt.Halt.{Halt}
+use Rattle.dcr_link.specs.Replies.{Terms}
 use Rattle.dcr_serve.specs.Left.{numbers_from, AreAllButFirst, HasNumber}
 use Rattle.dcr_serve.specs.declared.stand.DoorStand.{DoorStand}
 use Rattle.dcr_serve.specs.declared.stand.DoorStand.TheVariants.{Shut, Failed}
@@ -32,11 +33,11 @@ pub record Tells (L R : Type 0) : Type 0 where
 abbrev pub HasFailed : {L R : Type 0} → Tells L R → R → Type 0
 HasFailed tells rest = AnyRose 0 (tells.failed_reads rest) 0 (tells.failed_writes rest)
 
-module _ {D L R : Type 0} (tells : Tells L R) (first : Option (Store D)) (capacity : ℕ) (sites atoms : List (List ℕ)) where
+module _ {D L R : Type 0} (tells : Tells L R) (first : Option (Store D)) (capacity : ℕ) (terms : Terms) where
   -- The session of this pass was served over a link that had failed in nothing, from its first call on, and ended so.
   pub record IsServed (link : L) (pass : PassValue) (end : WorkEnd) (rest : R) : Type 0 where
     pub calls : end.calls ≡ pass.made
-    pub serves : Serves first capacity sites atoms (new_pass pass.session) pass (tells.left link) (tells.taken link) (tells.sent rest) (HasFailed tells rest) end
+    pub serves : Serves first capacity terms (new_pass pass.session) pass (tells.left link) (tells.taken link) (tells.sent rest) (HasFailed tells rest) end
     pub ended : end.cause ≡ Ended → IsAtEnd (tells.unread rest)
     pub fault : end.cause ≡ LinkFault → HasFailed tells rest
     pub halted : (halt : Halt) → end.cause ≡ Halted halt → Shows first capacity pass.front halt

@@ -2,6 +2,7 @@ ghost use Rattle.std.specs.Prelude.{◌≡◌, ◌+◌, ◌<◌, ◌≤◌, ℕ,
 ghost use Rattle.std.specs.List.{All};
 ghost use Rattle.dcr_graph.specs.GraphValue.{rules_of};
 ghost use Rattle.dcr_serve.specs.Left.{numbers_from};
+ghost use Rattle.dcr_link.specs.Replies.{terms_of};
 ghost use Rattle.dcr_serving.specs.Hands.{HasServed, IsReady};
 ghost use Rattle.dcr_serving.specs.Placing.{AreInPlace, HasRoom, filled};
 ghost use Rattle.dcr_serving.specs.Serving.{IsServedOf, Stands};
@@ -15,6 +16,7 @@ use dcr_base::{Disk, Door, Gate, Link};
 use dcr_cell::StoreName;
 use dcr_cluster::Cluster;
 use dcr_graph::Graph;
+use dcr_policy::Policy;
 use dcr_proj::Cover;
 use dcr_serve::{Desk, DeskName, DoorStand};
 use std::alloc::Global;
@@ -38,6 +40,7 @@ pub(crate) fn work_at<
     cluster: &Cluster<D, G, N>,
     graph: &Graph,
     cover: &Cover,
+    policy: &Policy,
     door: B,
     seats: Vec<Seat<N>>,
     records: Vec<Vec<Record<B::Link, N>>>,
@@ -47,6 +50,7 @@ pub(crate) fn work_at<
 ) -> (B, Vec<Seat<N>>, DoorStand)
     requires graph { rules_of graph.now ≡ N.cluster.rules }
     requires cover { cover.now.owned ≡ N.cluster.owned }
+    requires policy { length policy.now.atoms ≡ N.cluster.rules.atoms }
     requires some { 0 < length records.items }
     requires seats { map (λ seat. seat.session) seats.items ≡ numbers_from 0 M.items }
     requires records { All (HasRoom M.items) records.items }
@@ -67,7 +71,7 @@ pub(crate) fn work_at<
       failed_reads = B.Link.Rest.failed_reads;
       failed_writes = B.Link.Rest.failed_writes;
     })
-        N.first N.capacity cover.now.names graph.now.names M.links one.pass one.end) (filled slots.new) }
+        N.first N.capacity (terms_of cover.now.names graph.now.names policy.now) M.links one.pass one.end) (filled slots.new) }
     ensures left { map (λ seat. seat.session) result.1.items ≡ numbers_from (length (filled slots.new)) M.items }
     ensures within { length (filled slots.new) ≤ M.items }
     ensures free { All (λ seat. slice_get slots.new seat.session ≡ Some None) result.1.items }
@@ -76,7 +80,7 @@ pub(crate) fn work_at<
     let sessions = slots.len();
     let (desk, mut share) = Desk::<B, Seat<N>, M>::new(door, seats, blank);
     let mut hands = deal(&mut share, records, hands, sessions);
-    at_work(rt, alloc, cluster, graph, cover, &desk, &mut hands);
+    at_work(rt, alloc, cluster, graph, cover, policy, &desk, &mut hands);
     gather(cluster, &mut share, hands, slots);
     let (door, left, stand) = desk.finish(share);
     let left = part(cluster, left, slots);
@@ -97,11 +101,13 @@ fn at_work<
     cluster: &Cluster<D, G, N>,
     graph: &Graph,
     cover: &Cover,
+    policy: &Policy,
     desk: &Desk<B, Seat<N>, M>,
     hands: &mut Vec<Hand<B::Link, N, M>>,
 )
     requires graph { rules_of graph.now ≡ N.cluster.rules }
     requires cover { cover.now.owned ≡ N.cluster.owned }
+    requires policy { length policy.now.atoms ≡ N.cluster.rules.atoms }
     requires some { 0 < length hands.old.items }
     requires ready { All (IsReady M.items) hands.old.items }
     ensures as_many { length hands.new.items ≡ length hands.old.items }
@@ -113,9 +119,18 @@ fn at_work<
       failed_reads = B.Link.Rest.failed_reads;
       failed_writes = B.Link.Rest.failed_writes;
     })
-        N.first N.capacity cover.now.names graph.now.names M.links M.items) hands.new.items }
+        N.first N.capacity (terms_of cover.now.names graph.now.names policy.now) M.links M.items) hands.new.items }
 {
-    each_at_work(rt, alloc, cluster, graph, cover, desk, hands.as_mut_slice());
+    each_at_work(
+        rt,
+        alloc,
+        cluster,
+        graph,
+        cover,
+        policy,
+        desk,
+        hands.as_mut_slice(),
+    );
 }
 
 fn each_at_work<
@@ -131,11 +146,13 @@ fn each_at_work<
     cluster: &Cluster<D, G, N>,
     graph: &Graph,
     cover: &Cover,
+    policy: &Policy,
     desk: &Desk<B, Seat<N>, M>,
     hands: &mut [Hand<B::Link, N, M>],
 )
     requires graph { rules_of graph.now ≡ N.cluster.rules }
     requires cover { cover.now.owned ≡ N.cluster.owned }
+    requires policy { length policy.now.atoms ≡ N.cluster.rules.atoms }
     requires some { 0 < length hands.old }
     requires ready { All (IsReady M.items) hands.old }
     ensures as_many { length hands.new ≡ length hands.old }
@@ -147,7 +164,7 @@ fn each_at_work<
       failed_reads = B.Link.Rest.failed_reads;
       failed_writes = B.Link.Rest.failed_writes;
     })
-        N.first N.capacity cover.now.names graph.now.names M.links M.items (slice_index_or hands.new worker d) }
+        N.first N.capacity (terms_of cover.now.names graph.now.names policy.now) M.links M.items (slice_index_or hands.new worker d) }
 {
     let workers = hands.len();
     thread::for_each_mut(
@@ -155,7 +172,7 @@ fn each_at_work<
         hands,
         workers,
         &|_, hand: &mut Hand<B::Link, N, M>|
-            requires { (rules_of graph.now ≡ N.cluster.rules) × (cover.now.owned ≡ N.cluster.owned) × IsReady M.items hand.now }
+            requires { (rules_of graph.now ≡ N.cluster.rules) × (cover.now.owned ≡ N.cluster.owned) × (length policy.now.atoms ≡ N.cluster.rules.atoms) × IsReady M.items hand.now }
             ensures { HasServed (record {
               left = B.Link.left;
               taken = B.Link.taken;
@@ -164,7 +181,7 @@ fn each_at_work<
               failed_reads = B.Link.Rest.failed_reads;
               failed_writes = B.Link.Rest.failed_writes;
             })
-                N.first N.capacity cover.entry.now.names graph.entry.now.names M.links M.items hand.exit.now }
-        { work(rt, alloc, cluster, graph, cover, desk, hand) },
+                N.first N.capacity (terms_of cover.entry.now.names graph.entry.now.names policy.entry.now) M.links M.items hand.exit.now }
+        { work(rt, alloc, cluster, graph, cover, policy, desk, hand) },
     );
 }

@@ -2,6 +2,7 @@ ghost use Rattle.std.specs.Prelude.{◌≡◌, ◌≢◌, ◌+◌, ◌≤◌, �
 ghost use Rattle.dcr_graph.specs.GraphValue.{rules_of};
 ghost use Rattle.dcr_serve.specs.Left.{numbers_from, HasNumber};
 ghost use Rattle.dcr_serve.specs.declared.stand.DoorStand.TheVariants.{Open};
+ghost use Rattle.dcr_link.specs.Replies.{terms_of};
 ghost use Rattle.dcr_serving.specs.Serving.{AreServed, Stands};
 
 use crate::LinkEnd;
@@ -11,6 +12,7 @@ use dcr_base::{Disk, Door, Failed, Gate};
 use dcr_cell::StoreName;
 use dcr_cluster::Cluster;
 use dcr_graph::Graph;
+use dcr_policy::Policy;
 use dcr_proj::Cover;
 use dcr_serve::DoorStand;
 use dcr_turn::Pass;
@@ -25,6 +27,7 @@ pub(crate) fn go_on<D: Disk, G: Gate, N: StoreName<D>, B: Door, R: Wait>(
     cluster: &Cluster<D, G, N>,
     graph: &Graph,
     cover: &Cover,
+    policy: &Policy,
     door: &mut B,
     stand: DoorStand,
     mut left: Vec<Seat<N>>,
@@ -33,6 +36,7 @@ pub(crate) fn go_on<D: Disk, G: Gate, N: StoreName<D>, B: Door, R: Wait>(
 ) -> DoorStand
     requires graph { rules_of graph.now ≡ N.cluster.rules }
     requires cover { cover.now.owned ≡ N.cluster.owned }
+    requires policy { length policy.now.atoms ≡ N.cluster.rules.atoms }
     requires left { map (λ seat. seat.session) left.items ≡ numbers_from (length passes.old.items) (length passes.old.items + length left.items) }
     requires no_more { length ends.old.items ≤ length passes.old.items }
     requires room_for_passes { length passes.old.items + length left.items ≤ vec_capacity passes.old }
@@ -46,7 +50,7 @@ pub(crate) fn go_on<D: Disk, G: Gate, N: StoreName<D>, B: Door, R: Wait>(
           failed_reads = B.Link.Rest.failed_reads;
           failed_writes = B.Link.Rest.failed_writes;
         })
-        N.first N.capacity cover.now.names graph.now.names links (length passes.old.items) passes.old.items ends.old.items
+        N.first N.capacity (terms_of cover.now.names graph.now.names policy.now) links (length passes.old.items) passes.old.items ends.old.items
         → Stands B.links B.is_shut B.faults links faults (length ends.old.items) stand door.old
         → (stand ≡ Open → length ends.old.items ≡ length passes.old.items)
         → AreServed (record {
@@ -57,7 +61,7 @@ pub(crate) fn go_on<D: Disk, G: Gate, N: StoreName<D>, B: Door, R: Wait>(
           failed_reads = B.Link.Rest.failed_reads;
           failed_writes = B.Link.Rest.failed_writes;
         })
-        N.first N.capacity cover.now.names graph.now.names links (length passes.old.items + length left.items) passes.new.items ends.new.items
+        N.first N.capacity (terms_of cover.now.names graph.now.names policy.now) links (length passes.old.items + length left.items) passes.new.items ends.new.items
         × Stands B.links B.is_shut B.faults links faults (length ends.new.items) result door.new
         × (result ≡ Open → length ends.new.items ≡ length passes.old.items + length left.items) }
 {
@@ -67,7 +71,9 @@ pub(crate) fn go_on<D: Disk, G: Gate, N: StoreName<D>, B: Door, R: Wait>(
     while let Some(seat) = left.pop() {
         match ask(door, &mut now) {
             Some(link) => {
-                let Record { pass, end } = serve_link(rt, alloc, cluster, seat, graph, cover, link);
+                let Record { pass, end } = serve_link(
+                    rt, alloc, cluster, seat, graph, cover, policy, link,
+                );
                 passes.push_reserved(pass);
                 ends.push_reserved(end);
             }

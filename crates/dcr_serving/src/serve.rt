@@ -5,6 +5,7 @@ ghost use Rattle.dcr_graph.specs.GraphValue.{rules_of};
 ghost use Rattle.dcr_turn.specs.PassValue.{new_passes};
 ghost use Rattle.dcr_serve.specs.Left.{AreAllButFirst};
 ghost use Rattle.dcr_serve.specs.declared.stand.DoorStand.TheVariants.{Failed as HasFailed};
+ghost use Rattle.dcr_link.specs.Replies.{terms_of};
 ghost use Rattle.dcr_link.specs.declared.end.WorkCause.TheVariants.{NoMemory};
 ghost use Rattle.dcr_serving.specs.Serving.{AreServed, DoorEnds};
 
@@ -18,6 +19,7 @@ use dcr_cell::StoreName;
 use dcr_cluster::Cluster;
 use dcr_graph::Graph;
 use dcr_link::WorkCause;
+use dcr_policy::Policy;
 use dcr_proj::Cover;
 use dcr_serve::{DeskName, DoorStand};
 use dcr_turn::Pass;
@@ -50,11 +52,13 @@ pub fn serve_sessions<
     passes: Vec<Pass<N>>,
     graph: &Graph,
     cover: &Cover,
+    policy: &Policy,
     door: B,
     workers: u32,
 ) -> ServeEnd<B, N>
     requires graph { rules_of graph.now ≡ N.cluster.rules }
     requires cover { cover.now.owned ≡ N.cluster.owned }
+    requires policy { length policy.now.atoms ≡ N.cluster.rules.atoms }
     requires passes { passes.items ≡ new_passes N.turn.sessions }
     requires workers { (0 < workers) × (workers ≤ 64) }
     ensures served { AreServed (record {
@@ -65,7 +69,7 @@ pub fn serve_sessions<
       failed_reads = B.Link.Rest.failed_reads;
       failed_writes = B.Link.Rest.failed_writes;
     })
-        N.first N.capacity cover.now.names graph.now.names (B.links door) N.turn.sessions result.passes.items result.ends.items }
+        N.first N.capacity (terms_of cover.now.names graph.now.names policy.now) (B.links door) N.turn.sessions result.passes.items result.ends.items }
     ensures door { DoorEnds B.links B.is_shut B.faults door result.door N.turn.sessions result.ends.items
         result.door_failed result.no_memory }
 {
@@ -76,6 +80,7 @@ pub fn serve_sessions<
         passes,
         graph,
         cover,
+        policy,
         door,
         workers,
         Blank::new(workers as u64 + 1),
@@ -97,12 +102,14 @@ fn at_desk<
     passes: Vec<Pass<N>>,
     graph: &Graph,
     cover: &Cover,
+    policy: &Policy,
     door: B,
     workers: u32,
     blank: Blank,
 ) -> ServeEnd<B, N>
     requires graph { rules_of graph.now ≡ N.cluster.rules }
     requires cover { cover.now.owned ≡ N.cluster.owned }
+    requires policy { length policy.now.atoms ≡ N.cluster.rules.atoms }
     requires passes { passes.items ≡ new_passes N.turn.sessions }
     requires workers { (0 < workers) × (workers ≤ 64) }
     requires items { M.items ≡ N.turn.sessions }
@@ -118,7 +125,7 @@ fn at_desk<
       failed_reads = B.Link.Rest.failed_reads;
       failed_writes = B.Link.Rest.failed_writes;
     })
-        N.first N.capacity cover.now.names graph.now.names (B.links door) N.turn.sessions result.passes.items result.ends.items }
+        N.first N.capacity (terms_of cover.now.names graph.now.names policy.now) (B.links door) N.turn.sessions result.passes.items result.ends.items }
     ensures door { DoorEnds B.links B.is_shut B.faults door result.door N.turn.sessions result.ends.items
         result.door_failed result.no_memory }
 {
@@ -143,7 +150,7 @@ fn at_desk<
     let seats = seated(passes, seats);
     let places = slots.as_mut_slice();
     let (mut door, left, stand) = work_at(
-        rt, alloc, cluster, graph, cover, door, seats, records, hands, places, blank,
+        rt, alloc, cluster, graph, cover, policy, door, seats, records, hands, places, blank,
     );
     take_out(places, sessions - left.len(), &mut served, &mut ends);
     let stand = go_on(
@@ -152,6 +159,7 @@ fn at_desk<
         cluster,
         graph,
         cover,
+        policy,
         &mut door,
         stand,
         left,

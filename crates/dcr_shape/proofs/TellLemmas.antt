@@ -194,8 +194,8 @@ tells_none = record { read = λ x e. cc; holds = λ p. absurd p }
 
 -- ---- the version
 
-tells_version_named : (text : List ℕ) → Tells (version_named text) ((text ≡ codes "1") ⊎ ((text ≡ codes "2") ⊎ ⊥))
-tells_version_named text = tells_cond text (codes "1") _ V1 _ (tells_cond text (codes "2") ⊥ V2 None tells_none)
+tells_version_named : (text : List ℕ) → Tells (version_named text) ((text ≡ codes "1") ⊎ ((text ≡ codes "2") ⊎ ((text ≡ codes "3") ⊎ ⊥)))
+tells_version_named text = tells_cond text (codes "1") _ V1 _ (tells_cond text (codes "2") _ V2 _ (tells_cond text (codes "3") ⊥ V2 None tells_none))
 
 pub text_is : (d : Data) (text : List ℕ) → as_str d ≡ Some text → d ≡ string text
 text_is null text e = absurd cc
@@ -210,20 +210,23 @@ named_text d None is = record { read = λ x e. absurd cc; holds = never }
   where
     never : IsVersion d → (x : Version) × (None ≡ Some x)
     never (inl e) = absurd (let there = sym is ∙ ap as_str e in cc)
-    never (inr e) = absurd (let there = sym is ∙ ap as_str e in cc)
+    never (inr (inl e)) = absurd (let there = sym is ∙ ap as_str e in cc)
+    never (inr (inr e)) = absurd (let there = sym is ∙ ap as_str e in cc)
 named_text d (Some text) is = tells_as _ _ _ (tells_version_named text) to from
   where
     whole : d ≡ string text
     whole = text_is d text is
 
-    to : (text ≡ codes "1") ⊎ ((text ≡ codes "2") ⊎ ⊥) → IsVersion d
+    to : (text ≡ codes "1") ⊎ ((text ≡ codes "2") ⊎ ((text ≡ codes "3") ⊎ ⊥)) → IsVersion d
     to (inl e) = inl (whole ∙ ap string e)
-    to (inr (inl e)) = inr (whole ∙ ap string e)
-    to (inr (inr e)) = absurd e
+    to (inr (inl e)) = inr (inl (whole ∙ ap string e))
+    to (inr (inr (inl e))) = inr (inr (whole ∙ ap string e))
+    to (inr (inr (inr e))) = absurd e
 
-    from : IsVersion d → (text ≡ codes "1") ⊎ ((text ≡ codes "2") ⊎ ⊥)
+    from : IsVersion d → (text ≡ codes "1") ⊎ ((text ≡ codes "2") ⊎ ((text ≡ codes "3") ⊎ ⊥))
     from (inl e) = inl (let there = sym is ∙ ap as_str e in cc)
-    from (inr e) = inr (inl (let there = sym is ∙ ap as_str e in cc))
+    from (inr (inl e)) = inr (inl (let there = sym is ∙ ap as_str e in cc))
+    from (inr (inr e)) = inr (inr (inl (let there = sym is ∙ ap as_str e in cc)))
 
 tells_version_of : (d : Data) → Tells (version_written (get (codes "version") d)) (MayHaveMember (codes "version") IsVersion d)
 tells_version_of d = at (get (codes "version") d) refl
@@ -246,24 +249,38 @@ pub record TellsSecond (d : Data) (version : Version) : Type 0 where
   pub second : version ≡ V2 → IsSecondVersion d
   pub is : IsSecondVersion d → version ≡ V2
 
-second_named : (text : List ℕ) (version : Version) → version_named text ≡ Some version → version ≡ V2 → text ≡ codes "2"
-second_named text version e two = at (bytes_eq text (codes "1")) (bytes_eq text (codes "2")) (bytes_eq-Decides text (codes "2")).0 e
+second_named : (text : List ℕ) (version : Version) → version_named text ≡ Some version → version ≡ V2 → (text ≡ codes "2") ⊎ (text ≡ codes "3")
+second_named text version e two = at (bytes_eq text (codes "1")) (bytes_eq text (codes "2")) (bytes_eq text (codes "3")) (bytes_eq-Decides text (codes "2")).0 (bytes_eq-Decides text (codes "3")).0 e
   where
-    at : (b c : Bool) → (c ≡ true → text ≡ codes "2") → cond b (Some V1) (cond c (Some V2) None) ≡ Some version → text ≡ codes "2"
-    at true c h e = absurd cc
-    at false true h e = h refl
-    at false false h e = absurd cc
+    at : (b c d : Bool) → (c ≡ true → text ≡ codes "2") → (d ≡ true → text ≡ codes "3") → cond b (Some V1) (cond c (Some V2) (cond d (Some V2) None)) ≡ Some version → (text ≡ codes "2") ⊎ (text ≡ codes "3")
+    at true c d h k e = absurd cc
+    at false true d h k e = inl (h refl)
+    at false false true h k e = inr (k refl)
+    at false false false h k e = absurd cc
+
+-- a text of the second version
+named_second : (text word : List ℕ) (version : Version) → text ≡ word → version_named word ≡ Some V2 → version_named text ≡ Some version → version ≡ V2
+named_second text word version same second e = let there : Some V2 ≡ Some version = sym second ∙ ap version_named (sym same) ∙ e in cc
 
 tells_second_at : (d : Data) (m : Option Data) (version : Version) → get (codes "version") d ≡ m → version_written m ≡ Some version → TellsSecond d version
-tells_second_at d None version is e = record { second = λ two. absurd cc; is = λ two. absurd cc }
+tells_second_at d None version is e = record { second = λ two. absurd cc; is = absent }
+  where
+    absent : IsSecondVersion d → version ≡ V2
+    absent (inl two) = absurd (let bad = sym is ∙ two in cc)
+    absent (inr three) = absurd (let bad = sym is ∙ three in cc)
 tells_second_at d (Some part) version is e = text (as_str part) refl e
   where
     text : (o : Option (List ℕ)) → as_str part ≡ o → (o >>= version_named) ≡ Some version → TellsSecond d version
     text None t e = absurd cc
-    text (Some word) t e = record {
-      second = λ two. is ∙ ap Some (text_is part word t ∙ ap string (second_named word version e two));
-      is = λ two. let whole : part ≡ string (codes "2") = same_Some _ _ (sym is ∙ two) in let same : word ≡ codes "2" = same_Some _ _ (sym t ∙ ap as_str whole) in let there : Some V2 ≡ Some version = sym (ap version_named same) ∙ e in cc;
-    }
+    text (Some word) t e = record { second = λ two. written (second_named word version e two); is = read }
+      where
+        written : (word ≡ codes "2") ⊎ (word ≡ codes "3") → IsSecondVersion d
+        written (inl two) = inl (is ∙ ap Some (text_is part word t ∙ ap string two))
+        written (inr three) = inr (is ∙ ap Some (text_is part word t ∙ ap string three))
+
+        read : IsSecondVersion d → version ≡ V2
+        read (inl two) = let whole : part ≡ string (codes "2") = same_Some _ _ (sym is ∙ two) in named_second word (codes "2") version (same_Some _ _ (sym t ∙ ap as_str whole)) refl e
+        read (inr three) = let whole : part ≡ string (codes "3") = same_Some _ _ (sym is ∙ three) in named_second word (codes "3") version (same_Some _ _ (sym t ∙ ap as_str whole)) refl e
 
 pub tells_second : (d : Data) (version : Version) → top_in d ≡ Some version → TellsSecond d version
 unfolding top_in

@@ -46,8 +46,9 @@ pub record Arrays : Type 0 where
   pub events : List Data
   pub relations : List Data
 
+-- the third is read as the second, and may have roles besides
 abbrev pub version_named : List ℕ → Option Version
-version_named text = cond (bytes_eq text (codes "1")) (Some V1) (cond (bytes_eq text (codes "2")) (Some V2) None)
+version_named text = cond (bytes_eq text (codes "1")) (Some V1) (cond (bytes_eq text (codes "2")) (Some V2) (cond (bytes_eq text (codes "3")) (Some V2) None))
 
 -- the version that a member is: the first, where there is no such member
 abbrev pub version_written : Option Data → Option Version

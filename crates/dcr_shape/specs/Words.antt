@@ -38,16 +38,16 @@ MayHaveMember name P d = (part : Data) → get name d ≡ Some part → P part
 -- ---- the parts
 
 abbrev pub IsVersion : Data → Type 0
-IsVersion d = (d ≡ string (codes "1")) ⊎ (d ≡ string (codes "2"))
+IsVersion d = (d ≡ string (codes "1")) ⊎ ((d ≡ string (codes "2")) ⊎ (d ≡ string (codes "3")))
 
--- the value is an object, and `version` is one of the texts 1 and 2 where it is there
+-- the value is an object, and `version` is one of the texts 1, 2 and 3 where it is there
 pub record IsTop (d : Data) : Type 0 where
   pub is_object : IsObject d
   pub version : MayHaveMember (codes "version") IsVersion d
 
--- the file is of the second version
+-- the file is of the second version, or of the third, which is the second with roles besides
 abbrev pub IsSecondVersion : Data → Type 0
-IsSecondVersion d = get (codes "version") d ≡ Some (string (codes "2"))
+IsSecondVersion d = (get (codes "version") d ≡ Some (string (codes "2"))) ⊎ (get (codes "version") d ≡ Some (string (codes "3")))
 
 -- an object, its `events` an array, and its `relations` an array where it is there
 pub record IsGraphObject (d : Data) : Type 0 where

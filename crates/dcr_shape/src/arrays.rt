@@ -35,7 +35,7 @@ fn named(text: &str) -> Option<Version>
 {
     match text {
         "1" => Some(Version::V1),
-        "2" => Some(Version::V2),
+        "2" | "3" => Some(Version::V2),
         _ => None,
     }
 }
@@ -73,8 +73,9 @@ pub(crate) fn sessions_array(value: &Value) -> Option<&[Value]>
     array_or_none(value, "sessions")
 }
 
-// The elements of the member with this name, and none where there is no such member.
-fn array_or_none<'v>(value: &'v Value, name: &str) -> Option<&'v [Value]>
+/// The elements of the member with this name, and none where there is no such member. None exactly where it is there and
+/// is no array.
+pub fn array_or_none<'v>(value: &'v Value, name: &str) -> Option<&'v [Value]>
     ensures value { option_map (λ vs. map view vs.now) result
         ≡ elements_or_none (get name.now (view value.now)) }
     ensures smaller { IfSome result (λ vs. items_size (items_view vs.now) < size (view value.now)) }

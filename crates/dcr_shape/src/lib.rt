@@ -13,6 +13,7 @@ mod value;
 mod version;
 mod written;
 
+pub use arrays::array_or_none;
 pub use events::{WrittenEvent, WrittenEvents};
 pub use laws::{shape_is_the_formats, what_is_read_is_there};
 pub use relations::{WrittenRelation, WrittenRelations};
@@ -20,5 +21,6 @@ pub use sessions::WrittenSessions;
 pub use sites::{WrittenSite, WrittenSites};
 pub use stop::{LimitKind, Part, ReadStop};
 pub use texts::Texts;
+pub use value::{elements, member, member_text};
 pub use version::Version;
 pub use written::{Written, read_shape};

@@ -7,17 +7,17 @@ ghost use Rattle.dcr_shape.specs.Members.{elements as elements_of, optional, tex
 
 use serde_json::Value;
 
-// The member of an object with this name. A member that is null is there.
-pub(crate) fn member<'v>(value: &'v Value, name: &str) -> Option<&'v Value>
+/// The member of an object with this name. A member that is null is there. None exactly where there is none.
+pub fn member<'v>(value: &'v Value, name: &str) -> Option<&'v Value>
     ensures value { option_map (λ v. view v.now) result ≡ get name.now (view value.now) }
     ensures smaller { IfSome result (λ v. size (view v.now) < size (view value.now)) }
 {
     value.get(name)
 }
 
-// The elements of an array.
+/// The elements of an array. None exactly where the value is none.
 #[tactic(auto, using(crate::proofs::ValueLemmas::elements_seen, crate::proofs::ValueLemmas::elements_small))]
-pub(crate) fn elements(value: &Value) -> Option<&[Value]>
+pub fn elements(value: &Value) -> Option<&[Value]>
     ensures value { option_map (λ vs. map view vs.now) result ≡ elements_of (view value.now) }
     ensures smaller { IfSome result (λ vs. items_size (items_view vs.now) < size (view value.now)) }
 {
@@ -27,8 +27,8 @@ pub(crate) fn elements(value: &Value) -> Option<&[Value]>
     }
 }
 
-// The text of the member with this name.
-pub(crate) fn member_text<'v>(value: &'v Value, name: &str) -> Option<&'v str>
+/// The text of the member with this name. None exactly where there is no such member, or it is no text.
+pub fn member_text<'v>(value: &'v Value, name: &str) -> Option<&'v str>
     ensures { option_map (λ t. t.now) result ≡ text_at name.now (view value.now) }
 {
     let member = value.get(name)?;

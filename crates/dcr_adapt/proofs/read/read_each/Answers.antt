@@ -8,7 +8,7 @@ use Rattle.dcr_json.specs.declared.case.Case.{Case}
 use Rattle.dcr_json.specs.declared.case.CaseStop.TheVariants.{TooLong}
 use Rattle.dcr_adapt.specs.Stages.{line_texts, stages_from}
 use Rattle.dcr_adapt.specs.declared.stop.StageStop.TheVariants.{Stage, NoMemory}
-use Rattle.dcr_adapt.proofs.ReadLemmas.{byte_left, lent_last, long_first, more_read, stop_read}
+use Rattle.dcr_adapt.proofs.ReadLemmas.{all_lines, byte_left, lent_last, long_first, more_read, stop_read}
 use Rattle.dcr_adapt.proofs.read.read_each.Goals as goal
 
 pub cut-requires : goal.cut-requires
@@ -47,3 +47,6 @@ loop-i-preserved c =
     more_read texts c.loop-i.i items (line_texts c.loop-i.rest.now) c.cut.result.0.now (line_texts c.cut.result.1.now) c.loop-i.invariant (omega (arith, c.requires)) c.cut.ensures.lines
     (option_map (λ (was : Bor Case). case_of was.now) c.last.result) c.in_ok-case.case _ last c.in_ok-case.ensures.says c.in_ok-case.ensures.spells c.in_ok-case.ensures.fits
     c.in_ok-push.ensures.items
+
+pub returns-clause-lines : goal.returns-clause-lines
+returns-clause-lines c = all_lines (line_texts c.args.bytes.now) c.loop-i.i c.loop-i.cases.items (line_texts c.loop-i.rest.now) c.loop-i.invariant (omega (arith, c.requires))

@@ -1,7 +1,6 @@
-use Rattle.std.proofs.Common.{◌≡◌, [], List, sym, ap, subst, ◌∙◌}
+use Rattle.std.proofs.Common.{[], List, subst}
 use Rattle.dcr_journal.specs.declared.call.Call.{Call}
 use Rattle.dcr_engine.specs.Ran.{HasRun, cluster_of}
-use Rattle.dcr_graph.specs.GraphValue.{rules_of}
 use Rattle.dcr_tape.specs.declared.tape.Store.TheVariants.{Off}
 use Rattle.dcr_app.proofs.AdaptLemmas.{ran_stage}
 use Rattle.dcr_app.proofs.adapt.run_stage.Goals as goal

@@ -1,4 +1,4 @@
-use Rattle.std.proofs.Common.{◌≡◌, Err, refl, ap, ◌∙◌, arith, IfSome, subst, sym}
+use Rattle.std.proofs.Common.{◌≡◌, Err, refl, ap, ◌∙◌, arith, IfSome, subst, sym, inr}
 use Rattle.dcr_base.specs.declared.status.Status.TheVariants.{NoMemory, ReadFault}
 use Rattle.dcr_app.proofs.ApartLemmas.{apart_from, silent_apart, too_long_apart}
 use Rattle.dcr_app.proofs.OutsideLemmas.{starved, took_all, unread, untold, unworlded}
@@ -18,9 +18,9 @@ returns-in-Ok-clause-asked g c =
 
 pub returns-in-Err-TooLong-clause-answers : goal.returns-in-Err-TooLong-clause-answers
 returns-in-Err-TooLong-clause-answers g c =
-    let end = c.refuse.result in
-    too_long_apart (g.I.Source.left c.args.input.now) (g.I.Source.has_ended c.read_all.new.source) (g.O.Sink.taken c.args.output.now) (g.O.Sink.taken c.refuse.new.output) end.status end.closed end.world
-    c.refuse.ensures.closed c.refuse.ensures.world (c.read_all.ensures.too_long (c.in-Err-TooLong.is ∙ ap Err c.in-Err-TooLong.field-0-is)) (c.refuse.ensures.wrote (λ e. absurd cc))
+    let end = c.refuse_long.result in
+    too_long_apart (g.I.Source.left c.args.input.now) (g.I.Source.has_ended c.read_all.new.source) (g.O.Sink.taken c.args.output.now) (g.O.Sink.taken c.refuse_long.new.output) end.status end.closed end.world
+    c.refuse_long.ensures.closed c.refuse_long.ensures.world (c.read_all.ensures.too_long (c.in-Err-TooLong.is ∙ ap Err c.in-Err-TooLong.field-0-is)) (inr c.refuse_long.ensures.wrote)
 
 pub returns-in-Err-ReadFault-clause-answers : goal.returns-in-Err-ReadFault-clause-answers
 returns-in-Err-ReadFault-clause-answers g c =

@@ -5,6 +5,7 @@ use Rattle.dcr_graph.specs.Rules.{Rules}
 use Rattle.dcr_schedule.specs.Apart.{HasRunApart}
 use Rattle.dcr_json.specs.Built.{case_of}
 use Rattle.dcr_app.proofs.ApartLemmas.{legal_apart, over_sessions, reports_apart, tells_apart}
+use Rattle.dcr_app.proofs.RunLemmas.{cases_are_accepted}
 use Rattle.dcr_app.proofs.apart.apart_case.Goals as goal
 
 pub report-status-requires-clause-legal : goal.report-status-requires-clause-legal
@@ -14,7 +15,7 @@ report-status-requires-clause-legal g c =
 pub returns-clause-answers : goal.returns-clause-answers
 returns-clause-answers g c = λ bytes spelled.
     let case = c.args.case.now in
-    tells_apart c.when_each_refusal_comes.ensures.cases bytes (case_of case) (g.O.Sink.taken c.args.output.now) (g.O.Sink.taken c.report-status.new.output) c.report-status.result c.in-Ok.closed c.in-Ok.world spelled
+    tells_apart (cases_are_accepted c.when_each_refusal_comes.ensures.accepted) bytes (case_of case) (g.O.Sink.taken c.args.output.now) (g.O.Sink.taken c.report-status.new.output) c.report-status.result c.in-Ok.closed c.in-Ok.world spelled
     (subst (λ (G : Rules). HasRunApart G case.cover.owned case.opening case.sessions c.in-Ok.world c.in-Ok.closed) c.requires.flat.related (over_sessions (rules_of case.graph) case.cover.owned case.opening c.all.result.now case.sessions c.in-Ok.world c.in-Ok.closed c.all.ensures c.in-Ok.ensures)) c.report-status.ensures.wrote
 
 pub returns-clause-report : goal.returns-clause-report

@@ -2,7 +2,7 @@ use Rattle.std.proofs.Common.{rules, ◌≡◌, ◌⊎◌, ℕ, Bool, false, Opt
 use Rattle.dcr_base.specs.Count.{Rose}
 use Rattle.dcr_base.specs.declared.status.Status.{Status}
 use Rattle.dcr_base.specs.declared.status.Status.TheVariants.{Done, DoorFault, Invalid, NoMemory, Refused, Usage, WriteFault}
-use Rattle.dcr_json.specs.Case.{case_in}
+use Rattle.dcr_roles.specs.Accepted.{case_accepted}
 use Rattle.dcr_app.specs.Adapted.{AnswersStages, IsAnsweredStages, RefusesStages, WroteReports}
 use Rattle.dcr_app.specs.Answers.{Answers, EndsRun, EndsServing, IsAnsweredCase, IsAnsweredReport, IsServing, IsToldByOne, Refuses, RefusesCase, SaysInvalid, SaysValid}
 use Rattle.dcr_app.specs.Command.{command_in}
@@ -18,7 +18,7 @@ use Rattle.dcr_app.proofs.ConformLemmas.{answered_log, log_ends, refuses_log}
 use Rattle.dcr_app.proofs.FaultlessLemmas.{answered_case}
 use Rattle.dcr_app.proofs.LinksLemmas.{door_by, full_by, full_told, left_by, no_fewer_by, unasked_by}
 use Rattle.dcr_app.proofs.ReplayLemmas.{answered_report, refuses_report, says_invalid, says_valid}
-use Rattle.dcr_app.proofs.RunLemmas.{done_throughout, told_by_one}
+use Rattle.dcr_app.proofs.RunLemmas.{cases_are_accepted, done_throughout, told_by_one}
 use Rattle.dcr_app.proofs.TapeLemmas.{still_same}
 use Rattle.dcr_app.proofs.app.dcr.Goals.{in-None, in-Some-Adapt, in-Some-Conform, in-Some-Load, in-Some-Nodes, in-Some-Replay}
 use Rattle.dcr_app.proofs.app.dcr.Goals as goal
@@ -43,9 +43,9 @@ returns-in-Some-Run-clause-converse g c = λ workers store is.
     let had = g.O.Sink.taken c.args.output.now in let took = g.O.Sink.taken c.run.new.output in let end = c.run.result in
     let same = spelled g c workers store is in (
       subst (λ w. IsToldByOne w left end.closed) same.0
-          (told_by_one g.D.Disk.view g.D.Disk.faults c.when_each_refusal_comes.ensures.cases c.ordered_is_told.ensures c.in-Some-Run.workers c.in-Some-Run.store c.args.disk end.disk has_ended had took
+          (told_by_one g.D.Disk.view g.D.Disk.faults c.when_each_refusal_comes.ensures.accepted c.ordered_is_told.ensures c.in-Some-Run.workers c.in-Some-Run.store c.args.disk end.disk has_ended had took
           end.status left end.closed c.run.ensures.answers),
-      done_throughout g.D.Disk.view g.D.Disk.faults c.when_each_refusal_comes.ensures.cases c.ordered_is_told.ensures c.in-Some-Run.workers c.in-Some-Run.store c.args.disk end.disk has_ended had took
+      done_throughout g.D.Disk.view g.D.Disk.faults c.when_each_refusal_comes.ensures.accepted c.ordered_is_told.ensures c.in-Some-Run.workers c.in-Some-Run.store c.args.disk end.disk has_ended had took
           end.status left end.closed c.run.ensures.answers,
     )
 
@@ -54,8 +54,8 @@ returns-in-Some-Run-clause-done g c = λ workers store is reads writes disks.
     let left = g.I.Source.left c.args.input.now in let has_ended = g.I.Source.has_ended c.run.new.input in
     let had = g.O.Sink.taken c.args.output.now in let took = g.O.Sink.taken c.run.new.output in let end = c.run.result in
     let same = spelled g c workers store is in
-    subst (λ s. IfSome left (λ bytes. IsAnsweredCase EndsRun s (g.D.Disk.view c.args.disk) (case_in bytes) end.status)) same.1
-    (answered_case g.D.Disk.view g.D.Disk.faults c.when_each_refusal_comes.ensures.cases c.one_list.ensures c.no_cause.ensures (by_workers c.in-Some-Run.workers) c.args.disk end.disk has_ended had took
+    subst (λ s. IfSome left (λ bytes. IsAnsweredCase EndsRun s (g.D.Disk.view c.args.disk) (case_accepted bytes) end.status)) same.1
+    (answered_case g.D.Disk.view g.D.Disk.faults c.when_each_refusal_comes.ensures.accepted c.one_list.ensures c.no_cause.ensures (by_workers c.in-Some-Run.workers) c.args.disk end.disk has_ended had took
     end.status (λ e. reads (c.run.ensures.read_counted e)) (λ e. writes (c.run.ensures.write_counted e)) (λ e. disks (c.run.ensures.disk_counted e))
     (door_by g.D.Disk.view g.D.Disk.faults (by_workers c.in-Some-Run.workers) c.in-Some-Run.store c.args.disk end.disk left has_ended had took end.status end.closed c.run.ensures.answers)
     EndsRun (λ e. e) (λ e full. absurd full.1) c.in-Some-Run.store left end.closed c.run.ensures.answers)
@@ -137,8 +137,8 @@ returns-in-Some-Serve-clause-served g c = λ sessions workers store is reads wri
     let run = c.run-in-Some-Serve.ensures in let end = c.run-in-Some-Serve.result in
     let left = g.I.Source.left c.args.input.now in let has_ended = g.I.Source.has_ended c.run-in-Some-Serve.new.input in
     let had = g.O.Sink.taken c.args.output.now in let took = g.O.Sink.taken c.run-in-Some-Serve.new.output in
-    subst (λ s. IfSome left (λ bytes. IsAnsweredCase EndsServing s (g.D.Disk.view c.args.disk) (case_in bytes) end.status)) (serving g c sessions workers store is).1
-    (answered_case g.D.Disk.view g.D.Disk.faults c.when_each_refusal_comes-in-Some-Serve.ensures.cases c.one_list-in-Some-Serve.ensures c.no_cause-in-Some-Serve.ensures (told_serving g c) c.args.disk end.disk has_ended
+    subst (λ s. IfSome left (λ bytes. IsAnsweredCase EndsServing s (g.D.Disk.view c.args.disk) (case_accepted bytes) end.status)) (serving g c sessions workers store is).1
+    (answered_case g.D.Disk.view g.D.Disk.faults c.when_each_refusal_comes-in-Some-Serve.ensures.accepted c.one_list-in-Some-Serve.ensures c.no_cause-in-Some-Serve.ensures (told_serving g c) c.args.disk end.disk has_ended
     had took end.status (λ e. reads (run.read_counted e)) (λ e. writes (run.write_counted e)) (λ e. disks (run.disk_counted e)) (λ e. door_holds (serving_door_by g c e))
     EndsServing (λ e. inr e) (λ e full. inl e) c.in-Some-Serve.store left end.closed run.answers)
 
@@ -260,8 +260,8 @@ pub returns-clause-apart : goal.returns-clause-apart
 returns-clause-apart g c = λ number is reads writes. elim c.match-command_of.branch [
   | in-Some-Nodes w ↦
       let left = g.I.Source.left c.args.input.now in
-      subst (λ (s : Status). IfSome left (λ bytes. IsAnsweredCase EndsRun false (g.D.Disk.view c.args.disk) (case_in bytes) s)) (sym (ended g c ∙ ap (λ answer. answer.0.status) w.answer-is))
-      (answered_apart w.when_each_refusal_comes-in-Some-Nodes.ensures.cases (g.D.Disk.view c.args.disk) left (g.I.Source.has_ended w.apart.new.input) (g.O.Sink.taken c.args.output.now)
+      subst (λ (s : Status). IfSome left (λ bytes. IsAnsweredCase EndsRun false (g.D.Disk.view c.args.disk) (case_accepted bytes) s)) (sym (ended g c ∙ ap (λ answer. answer.0.status) w.answer-is))
+      (answered_apart (cases_are_accepted w.when_each_refusal_comes-in-Some-Nodes.ensures.accepted) (g.D.Disk.view c.args.disk) left (g.I.Source.has_ended w.apart.new.input) (g.O.Sink.taken c.args.output.now)
       (g.O.Sink.taken w.apart.new.output) w.apart.result.status w.apart.result.closed w.apart.result.world
       (λ e. reads (subst (λ i. Rose (g.I.Source.read_faults c.args.input.now) (g.I.Source.read_faults i)) (sym w.input-is) (w.apart.ensures.read_counted e)))
       (λ e. writes (subst (λ o. Rose (g.O.Sink.write_faults c.args.output.now) (g.O.Sink.write_faults o)) (sym w.output-is) (w.apart.ensures.write_counted e)))
@@ -278,7 +278,7 @@ returns-clause-conformed g c = λ is reads writes. elim c.match-command_of.branc
   | in-Some-Conform w ↦
       let left = g.I.Source.left c.args.input.now in
       subst (λ (s : Status). IfSome left (λ bytes. IsAnsweredLog bytes s)) (sym (ended g c ∙ (ap (λ answer. answer.0.status) w.answer-is)))
-      (answered_log w.when_each_refusal_comes-in-Some-Conform.ensures.cases left (g.I.Source.has_ended w.conform.new.input) (g.O.Sink.taken c.args.output.now)
+      (answered_log (cases_are_accepted w.when_each_refusal_comes-in-Some-Conform.ensures.accepted) left (g.I.Source.has_ended w.conform.new.input) (g.O.Sink.taken c.args.output.now)
       (g.O.Sink.taken w.conform.new.output) w.conform.result.status
       (λ e. reads (subst (λ i. Rose (g.I.Source.read_faults c.args.input.now) (g.I.Source.read_faults i)) (sym w.input-is) (w.conform.ensures.read_counted e)))
       (λ e. writes (subst (λ o. Rose (g.O.Sink.write_faults c.args.output.now) (g.O.Sink.write_faults o)) (sym w.output-is) (w.conform.ensures.write_counted e)))

@@ -1,4 +1,4 @@
-use Rattle.std.proofs.Common.{◌≡◌, Err, inl, refl, ap, ◌∙◌, arith, IfSome, subst, sym}
+use Rattle.std.proofs.Common.{◌≡◌, Err, inl, refl, ap, ◌∙◌, arith, IfSome, subst, sym, inr}
 use Rattle.dcr_app.specs.Logged.{AnswersLog}
 use Rattle.dcr_app.specs.declared.answer.Answer.{Answer}
 use Rattle.dcr_app.proofs.ConformLemmas.{log_from, too_long_log}
@@ -20,8 +20,8 @@ returns-in-Ok-clause-asked g c =
 
 pub returns-in-Err-TooLong-clause-answers : goal.returns-in-Err-TooLong-clause-answers
 returns-in-Err-TooLong-clause-answers g c =
-    too_long_log (g.I.Source.left c.args.input.now) (g.I.Source.has_ended c.read_all.new.source) (g.O.Sink.taken c.args.output.now) (g.O.Sink.taken c.refuse.new.output) c.refuse.result.status
-    (c.read_all.ensures.too_long (c.in-Err-TooLong.is ∙ ap Err c.in-Err-TooLong.field-0-is)) (c.refuse.ensures.wrote (λ e. absurd cc))
+    too_long_log (g.I.Source.left c.args.input.now) (g.I.Source.has_ended c.read_all.new.source) (g.O.Sink.taken c.args.output.now) (g.O.Sink.taken c.refuse_long.new.output) c.refuse_long.result.status
+    (c.read_all.ensures.too_long (c.in-Err-TooLong.is ∙ ap Err c.in-Err-TooLong.field-0-is)) (inr c.refuse_long.ensures.wrote)
 
 pub returns-in-Err-ReadFault-clause-answers : goal.returns-in-Err-ReadFault-clause-answers
 returns-in-Err-ReadFault-clause-answers g c = inl (unread c.silent-in-Err-ReadFault.result (g.O.Sink.taken c.args.output.now) c.silent-in-Err-ReadFault.ensures)

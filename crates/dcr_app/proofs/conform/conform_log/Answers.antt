@@ -4,12 +4,13 @@ use Rattle.dcr_log.specs.Traces.{traces_of}
 use Rattle.dcr_json.specs.Built.{case_of}
 use Rattle.dcr_app.proofs.ConformLemmas.{bad_log, told_log}
 use Rattle.dcr_app.proofs.OutsideLemmas.{appends_nothing}
+use Rattle.dcr_app.proofs.RunLemmas.{cases_are_accepted}
 use Rattle.dcr_app.proofs.conform.conform_log.Goals as goal
 
 pub returns-in-Ok-clause-answers : goal.returns-in-Ok-clause-answers
 returns-in-Ok-clause-answers g c = λ bytes short spelled same.
     let case = c.args.case.now in
-    told_log c.when_each_refusal_comes.ensures.cases bytes (case_of case) case.graph c.deref.result.now (g.O.Sink.taken c.args.output.now) (g.O.Sink.taken c.conform_traces.new.output) c.conform_traces.result
+    told_log (cases_are_accepted c.when_each_refusal_comes.ensures.accepted) bytes (case_of case) case.graph c.deref.result.now (g.O.Sink.taken c.args.output.now) (g.O.Sink.taken c.conform_traces.new.output) c.conform_traces.result
     short spelled (subst (λ l. first_bad (records_of l) ≡ None) same c.in-Ok.ensures.good) c.requires.case.flat
     (c.deref.ensures.value ∙ (c.in-Ok.ensures.traces ∙ ap (λ l. traces_of (drop 1 (records_of l))) same)) c.conform_traces.ensures.told
 

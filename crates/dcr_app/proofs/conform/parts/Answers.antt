@@ -1,4 +1,4 @@
-use Rattle.std.proofs.Common.{◌+◌, take, drop, rules, arith, sym, ◌∙◌}
+use Rattle.std.proofs.Common.{◌+◌, rules, ◌∙◌}
 use Rattle.std.proofs.lemmas.List.{take_rest}
 use Rattle.dcr_app.proofs.ConformLemmas.{case_at, case_whole, log_at, log_none}
 use Rattle.dcr_app.proofs.conform.parts.Goals as goal

@@ -1,4 +1,4 @@
-use Rattle.std.proofs.Common.{◌≡◌, List, ℕ, inr, subst, ◌∙◌}
+use Rattle.std.proofs.Common.{List, ℕ, inr, subst, ◌∙◌}
 use Rattle.dcr_base.specs.declared.status.Status.TheVariants.{Refused}
 use Rattle.dcr_app.specs.Outside.{Wrote}
 use Rattle.dcr_app.proofs.conform.refuse_record.Goals as goal

@@ -1,4 +1,4 @@
-use Rattle.std.proofs.Common.{◌≡◌, Err, refl, ap, ◌∙◌, arith, IfSome, subst, sym, inl}
+use Rattle.std.proofs.Common.{◌≡◌, Err, refl, ap, ◌∙◌, arith, IfSome, subst, sym, inl, inr}
 use Rattle.dcr_app.proofs.OutsideLemmas.{starved, took_all, unread}
 use Rattle.dcr_app.proofs.ReplayLemmas.{report_from, too_much}
 use Rattle.dcr_app.proofs.replay.replay.Goals as goal
@@ -16,8 +16,8 @@ returns-in-Ok-clause-asked g c =
 
 pub returns-in-Err-TooLong-clause-answers : goal.returns-in-Err-TooLong-clause-answers
 returns-in-Err-TooLong-clause-answers g c =
-    too_much (g.I.Source.left c.args.input.now) (g.O.Sink.taken c.args.output.now) (g.O.Sink.taken c.refuse.new.output) c.refuse.result.status
-    (c.read_all.ensures.too_long (c.in-Err-TooLong.is ∙ ap Err c.in-Err-TooLong.field-0-is)) (c.refuse.ensures.wrote (λ e. absurd cc))
+    too_much (g.I.Source.left c.args.input.now) (g.O.Sink.taken c.args.output.now) (g.O.Sink.taken c.refuse_long.new.output) c.refuse_long.result.status
+    (c.read_all.ensures.too_long (c.in-Err-TooLong.is ∙ ap Err c.in-Err-TooLong.field-0-is)) (inr c.refuse_long.ensures.wrote)
 
 pub returns-in-Err-ReadFault-clause-answers : goal.returns-in-Err-ReadFault-clause-answers
 returns-in-Err-ReadFault-clause-answers g c = inl (unread c.silent.result (g.O.Sink.taken c.args.output.now) c.silent.ensures)

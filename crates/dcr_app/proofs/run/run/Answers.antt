@@ -1,4 +1,4 @@
-use Rattle.std.proofs.Common.{◌≡◌, Err, ap, ◌∙◌, IfSome, subst, sym, refl, arith}
+use Rattle.std.proofs.Common.{◌≡◌, Err, ap, ◌∙◌, IfSome, subst, sym, refl, arith, inr}
 use Rattle.dcr_base.specs.declared.status.Status.TheVariants.{NoMemory, ReadFault}
 use Rattle.dcr_app.specs.Answers.{AnswersCase}
 use Rattle.dcr_app.specs.Telling.{doors_of, told_by}
@@ -19,12 +19,12 @@ returns-in-Ok-clause-answers g c =
 pub returns-in-Err-TooLong-clause-answers : goal.returns-in-Err-TooLong-clause-answers
 returns-in-Err-TooLong-clause-answers g c =
     let left = g.I.Source.left c.args.input.now in let has_ended = g.I.Source.has_ended c.read_all.new.source in
-    let had = g.O.Sink.taken c.args.output.now in let took = g.O.Sink.taken c.refuse.new.output in let disk = c.args.disk in let answer = c.refuse.result in let end = c.over.result in
+    let had = g.O.Sink.taken c.args.output.now in let took = g.O.Sink.taken c.refuse_long.new.output in let disk = c.args.disk in let answer = c.refuse_long.result in let end = c.over.result in
     let telling = (told_by (doors_of g.B.Door.links g.B.Door.is_shut g.B.Door.faults g.B.Link.Source.left g.B.Link.Sink.taken g.B.Link.Rest.Spent.unread g.B.Link.Rest.Spent.sent g.B.Link.Rest.Spent.failed_reads g.B.Link.Rest.Spent.failed_writes) c.args.door end.door end.ends.items c.args.way) in
     at_end (λ status told_run d. AnswersCase g.D.Disk.view g.D.Disk.faults telling c.args.store disk d left has_ended had took status told_run) answer.status end.status answer.closed end.closed
     disk end.disk (ap (λ (e : End _ _ _ _). e.status) c.over.ensures) (ap (λ (e : End _ _ _ _). e.closed) c.over.ensures) (ap (λ (e : End _ _ _ _). e.disk) c.over.ensures)
-    (too_long_run g.D.Disk.view g.D.Disk.faults telling c.args.store disk disk left has_ended had took answer.status answer.closed c.refuse.ensures.closed
-    (c.read_all.ensures.too_long (c.in-Err-TooLong.is ∙ ap Err c.in-Err-TooLong.field-0-is)) (c.refuse.ensures.wrote (λ e. absurd cc)))
+    (too_long_run g.D.Disk.view g.D.Disk.faults telling c.args.store disk disk left has_ended had took answer.status answer.closed c.refuse_long.ensures.closed
+    (c.read_all.ensures.too_long (c.in-Err-TooLong.is ∙ ap Err c.in-Err-TooLong.field-0-is)) (inr c.refuse_long.ensures.wrote))
 
 pub returns-in-Err-ReadFault-clause-answers : goal.returns-in-Err-ReadFault-clause-answers
 returns-in-Err-ReadFault-clause-answers g c =
@@ -53,7 +53,7 @@ returns-clause-answers g c =
 pub returns-in-Err-TooLong-clause-door : goal.returns-in-Err-TooLong-clause-door
 returns-in-Err-TooLong-clause-door g c =
     let end = c.over.result in
-    not_asked (doors_of g.B.Door.links g.B.Door.is_shut g.B.Door.faults g.B.Link.Source.left g.B.Link.Sink.taken g.B.Link.Rest.Spent.unread g.B.Link.Rest.Spent.sent g.B.Link.Rest.Spent.failed_reads g.B.Link.Rest.Spent.failed_writes) c.args.way end.closed c.args.door end.door end.ends.items end.status ((ap (λ (e : End _ _ _ _). e.closed) c.over.ensures) ∙ c.refuse.ensures.closed) (ap (λ (e : End _ _ _ _). e.door) c.over.ensures) (ap (λ (e : End _ _ _ _). e.ends.items) c.over.ensures ∙ c.new.ensures.items)
+    not_asked (doors_of g.B.Door.links g.B.Door.is_shut g.B.Door.faults g.B.Link.Source.left g.B.Link.Sink.taken g.B.Link.Rest.Spent.unread g.B.Link.Rest.Spent.sent g.B.Link.Rest.Spent.failed_reads g.B.Link.Rest.Spent.failed_writes) c.args.way end.closed c.args.door end.door end.ends.items end.status ((ap (λ (e : End _ _ _ _). e.closed) c.over.ensures) ∙ c.refuse_long.ensures.closed) (ap (λ (e : End _ _ _ _). e.door) c.over.ensures) (ap (λ (e : End _ _ _ _). e.ends.items) c.over.ensures ∙ c.new.ensures.items)
 
 pub returns-in-Err-ReadFault-clause-door : goal.returns-in-Err-ReadFault-clause-door
 returns-in-Err-ReadFault-clause-door g c =

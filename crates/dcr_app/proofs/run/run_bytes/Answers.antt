@@ -4,7 +4,7 @@ use Rattle.dcr_app.specs.Answers.{AnswersCase}
 use Rattle.dcr_app.specs.Telling.{doors_of, told_by}
 use Rattle.dcr_app.specs.declared.app.End.{End}
 use Rattle.dcr_app.proofs.OutsideLemmas.{at_end, not_asked}
-use Rattle.dcr_app.proofs.RunLemmas.{stopped_run}
+use Rattle.dcr_app.proofs.RunLemmas.{case_of_stop, stopped_run}
 use Rattle.dcr_app.proofs.TapeLemmas.{still_same}
 use Rattle.dcr_app.proofs.run.run_bytes.Goals as goal
 
@@ -24,4 +24,4 @@ returns-in-Err-clause-answers g c =
     at_end (λ status told_run d. AnswersCase g.D.Disk.view g.D.Disk.faults telling c.args.store c.args.disk d (Some c.args.bytes.now) ⊤ had took status told_run) answer.status end.status answer.closed end.closed
     c.args.disk end.disk (ap (λ (e : End _ _ _ _). e.status) c.over.ensures) (ap (λ (e : End _ _ _ _). e.closed) c.over.ensures) (ap (λ (e : End _ _ _ _). e.disk) c.over.ensures)
     (stopped_run g.D.Disk.view g.D.Disk.faults telling c.args.store c.args.disk c.args.disk (Some c.args.bytes.now) ⊤ c.args.bytes.now c.in-Err.stop had took answer.status answer.closed c.refuse.ensures.closed
-    refl c.in-Err.ensures.says c.refuse.ensures.wrote c.refuse.ensures.silent)
+    refl (λ had_memory. case_of_stop c.args.bytes.now c.in-Err.stop (c.in-Err.ensures.says had_memory)) c.refuse.ensures.wrote c.refuse.ensures.silent)

@@ -6,7 +6,7 @@ abbrev pub ghosts-serve-N-TurnName : goal.ghosts-serve-N-TurnName
 ghosts-serve-N-TurnName g a = record { turn = a.parts.blank; capacity = a.capacity }
 
 abbrev pub ghosts-serve-N-ClusterName : goal.ghosts-serve-N-ClusterName
-ghosts-serve-N-ClusterName g a = record { cluster = cluster_of a.case.now [] }
+ghosts-serve-N-ClusterName g a = record { cluster = cluster_of a.accepted.now.case [] }
 
 abbrev pub ghosts-serve-N-StoreName : goal.ghosts-serve-N-StoreName
 ghosts-serve-N-StoreName g a = record { first = Some a.store }

@@ -1,5 +1,6 @@
 use Rattle.std.proofs.Common.{◌≡◌, ◌<◌, length, ap, subst, sym, ◌∙◌}
 use Rattle.std.specs.List.{All}
+use Rattle.dcr_link.specs.Replies.{terms_of}
 use Rattle.dcr_serving.specs.Hands.{HasServed}
 use Rattle.dcr_serving.proofs.DeskLemmas.{whole_again}
 use Rattle.dcr_serving.proofs.desk.at_work.Goals as goal
@@ -20,6 +21,6 @@ returns-clause-served g c =
       failed_reads = g.B.Link.Rest.Spent.failed_reads;
       failed_writes = g.B.Link.Rest.Spent.failed_writes;
     })
-    g.N.StoreName.first g.N.TurnName.capacity c.args.cover.now.names c.args.graph.now.names g.M.DeskName.links g.M.DeskName.items))
+    g.N.StoreName.first g.N.TurnName.capacity (terms_of c.args.cover.now.names c.args.graph.now.names c.args.policy.now) g.M.DeskName.links g.M.DeskName.items))
     (sym (whole_again c.args.hands.now.len c.each_at_work.new.hands c.args.hands.now.items c.args.hands.now.ok.0 as_many))
     (λ k d within. c.each_at_work.ensures.served k d (subst (λ n. k < n) c.each_at_work.ensures.as_many within))

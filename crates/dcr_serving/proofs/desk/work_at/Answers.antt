@@ -2,6 +2,7 @@ use Rattle.std.proofs.Common.{◌≡◌, ◌<◌, ◌≤◌, ℕ, Some, length, 
 use Rattle.std.specs.Prelude.{None, slice_get}
 use Rattle.std.specs.List.{All}
 use Rattle.dcr_turn.specs.PassValue.{PassValue}
+use Rattle.dcr_link.specs.Replies.{terms_of}
 use Rattle.dcr_serve.specs.Left.{AreAllButFirst, numbers_from}
 use Rattle.dcr_serving.specs.Placing.{AreInPlace, filled}
 use Rattle.dcr_serving.specs.Serving.{IsServedOf}
@@ -46,7 +47,7 @@ returns-clause-served g c =
       failed_reads = g.B.Link.Rest.Spent.failed_reads;
       failed_writes = g.B.Link.Rest.Spent.failed_writes;
     })
-    g.N.StoreName.first g.N.TurnName.capacity c.args.cover.now.names c.args.graph.now.names g.M.DeskName.links one.pass one.end) (filled slots)) (sym c.part-left.ensures.slots)
+    g.N.StoreName.first g.N.TurnName.capacity (terms_of c.args.cover.now.names c.args.graph.now.names c.args.policy.now) g.M.DeskName.links one.pass one.end) (filled slots)) (sym c.part-left.ensures.slots)
     (from_hands (λ one. IsServedOf (record {
       left = g.B.Link.Source.left;
       taken = g.B.Link.Sink.taken;
@@ -55,7 +56,7 @@ returns-clause-served g c =
       failed_reads = g.B.Link.Rest.Spent.failed_reads;
       failed_writes = g.B.Link.Rest.Spent.failed_writes;
     })
-    g.N.StoreName.first g.N.TurnName.capacity c.args.cover.now.names c.args.graph.now.names g.M.DeskName.links one.pass one.end) c.args.slots.now c.gather.new.slots c.at_work.new.hands.items c.requires.empty c.gather.ensures.from_hands
+    g.N.StoreName.first g.N.TurnName.capacity (terms_of c.args.cover.now.names c.args.graph.now.names c.args.policy.now) g.M.DeskName.links one.pass one.end) c.args.slots.now c.gather.new.slots c.at_work.new.hands.items c.requires.empty c.gather.ensures.from_hands
     (λ k d within. (c.at_work.ensures.served k d within).each))
 
 pub returns-clause-left : goal.returns-clause-left

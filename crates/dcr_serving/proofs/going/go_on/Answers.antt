@@ -3,6 +3,7 @@ use Rattle.std.proofs.Common.{◌≡◌, ◌+◌, ◌≤◌, ◌<◌, ℕ, List,
 use Rattle.std.specs.Prelude.{vec_capacity}
 use Rattle.std.proofs.lemmas.List.{length-append}
 use Rattle.dcr_turn.specs.PassValue.{PassValue}
+use Rattle.dcr_link.specs.Replies.{terms_of}
 use Rattle.dcr_serve.specs.Left.{numbers_from}
 use Rattle.dcr_serving.specs.Serving.{AreServed, new_pass}
 use Rattle.dcr_serving.proofs.ServingLemmas.{next_seat, way_idle, way_served}
@@ -75,7 +76,7 @@ loop-seat-preserved-in-Some-ask g c =
             failed_reads = g.B.Link.Rest.Spent.failed_reads;
             failed_writes = g.B.Link.Rest.Spent.failed_writes;
           })
-          g.N.StoreName.first g.N.TurnName.capacity c.args.cover.now.names c.args.graph.now.names g.B.Door.links g.B.Door.is_shut g.B.Door.faults links faults
+          g.N.StoreName.first g.N.TurnName.capacity (terms_of c.args.cover.now.names c.args.graph.now.names c.args.policy.now) g.B.Door.links g.B.Door.is_shut g.B.Door.faults links faults
           c.loop-seat.passes.items c.push_reserved.new.self.items c.loop-seat.ends.items c.push_reserved-in-Some-ask.new.self.items c.loop-seat.now c.ask.new.stand c.loop-seat.door c.ask.new.door c.in-Some-ask.link
           c.serve_link-pass.result.pass c.serve_link-pass.result.end now c.in-Some-ask.ensures.open.0
           (c.in-Some-ask.ensures.some links faults (length c.loop-seat.ends.items) now.stands)
@@ -112,7 +113,7 @@ loop-seat-preserved g c =
             failed_reads = g.B.Link.Rest.Spent.failed_reads;
             failed_writes = g.B.Link.Rest.Spent.failed_writes;
           })
-          g.N.StoreName.first g.N.TurnName.capacity c.args.cover.now.names c.args.graph.now.names g.B.Door.links g.B.Door.is_shut g.B.Door.faults links faults
+          g.N.StoreName.first g.N.TurnName.capacity (terms_of c.args.cover.now.names c.args.graph.now.names c.args.policy.now) g.B.Door.links g.B.Door.is_shut g.B.Door.faults links faults
           c.loop-seat.passes.items c.push_reserved-in-None.new.self.items c.loop-seat.ends.items c.loop-seat.now c.ask.new.stand c.loop-seat.door c.ask.new.door c.into_pass.result now
           (c.in-None.ensures.none links faults (length c.loop-seat.ends.items) now.stands) c.in-None.ensures.not_open (c.into_pass.ensures.new ∙ ap new_pass next.0) c.push_reserved-in-None.ensures.items;
     }
@@ -134,7 +135,7 @@ returns g c =
               failed_reads = g.B.Link.Rest.Spent.failed_reads;
               failed_writes = g.B.Link.Rest.Spent.failed_writes;
             })
-                g.N.StoreName.first g.N.TurnName.capacity c.args.cover.now.names c.args.graph.now.names links n c.loop-seat.passes.items c.loop-seat.ends.items) total way.served,
+                g.N.StoreName.first g.N.TurnName.capacity (terms_of c.args.cover.now.names c.args.graph.now.names c.args.policy.now) links n c.loop-seat.passes.items c.loop-seat.ends.items) total way.served,
             way.stands,
             λ is. way.still_open is ∙ total,
           );

@@ -1,5 +1,6 @@
 use Rattle.std.proofs.Common.{◌≡◌, ◌+◌, ◌≤◌, ℕ, List, Option, length, map, reverse, vec_len, vec_capacity}
 use Rattle.dcr_turn.specs.PassValue.{PassValue}
+use Rattle.dcr_link.specs.Replies.{terms_of}
 use Rattle.dcr_serve.specs.Left.{numbers_from}
 use Rattle.dcr_serving.proofs.ServingLemmas.{Way}
 use Rattle.dcr_serving.proofs.going.go_on.Given as goal
@@ -19,7 +20,7 @@ invariant-loop-seat g l = record {
     failed_reads = g.B.Link.Rest.Spent.failed_reads;
     failed_writes = g.B.Link.Rest.Spent.failed_writes;
   })
-      g.N.StoreName.first g.N.TurnName.capacity l.initial.cover.names l.initial.graph.names g.B.Door.links g.B.Door.is_shut g.B.Door.faults links faults l.initial.passes.items l.initial.ends.items l.initial.now l.initial.door
+      g.N.StoreName.first g.N.TurnName.capacity (terms_of l.initial.cover.names l.initial.graph.names l.initial.policy) g.B.Door.links g.B.Door.is_shut g.B.Door.faults links faults l.initial.passes.items l.initial.ends.items l.initial.now l.initial.door
       → Way (record {
         left = g.B.Link.Source.left;
         taken = g.B.Link.Sink.taken;
@@ -28,7 +29,7 @@ invariant-loop-seat g l = record {
         failed_reads = g.B.Link.Rest.Spent.failed_reads;
         failed_writes = g.B.Link.Rest.Spent.failed_writes;
       })
-      g.N.StoreName.first g.N.TurnName.capacity l.initial.cover.names l.initial.graph.names g.B.Door.links g.B.Door.is_shut g.B.Door.faults links faults l.passes.items l.ends.items l.now l.door;
+      g.N.StoreName.first g.N.TurnName.capacity (terms_of l.initial.cover.names l.initial.graph.names l.initial.policy) g.B.Door.links g.B.Door.is_shut g.B.Door.faults links faults l.passes.items l.ends.items l.now l.door;
 }
 
 abbrev pub decreases-loop-seat : goal.decreases-loop-seat

@@ -2,6 +2,7 @@ use Rattle.std.proofs.Common.{◌≡◌, ℕ, List, ap, subst, sym}
 use Rattle.std.specs.Prelude.{Option, IsSome}
 use Rattle.std.specs.Io.KnownBytes.{IsAtEnd}
 use Rattle.dcr_turn.specs.PassValue.{PassValue}
+use Rattle.dcr_link.specs.Replies.{terms_of}
 use Rattle.dcr_serving.proofs.ServingLemmas.{calls_from_none, rose_from_none, serves_from_new}
 use Rattle.dcr_serving.proofs.record.serve_link.Goals as goal
 
@@ -11,7 +12,7 @@ returns-clause-served g c =
     record {
       calls = calls_from_none _ _ _ none c.serve_session-end.ensures.calls;
       serves =
-          serves_from_new g.N.StoreName.first g.N.TurnName.capacity c.args.cover.now.names c.args.graph.now.names c.args.seat.session c.into_pass-pass.result c.serve_session-end.new.pass
+          serves_from_new g.N.StoreName.first g.N.TurnName.capacity (terms_of c.args.cover.now.names c.args.graph.now.names c.args.policy.now) c.args.seat.session c.into_pass-pass.result c.serve_session-end.new.pass
           (g.L.Source.left c.args.link) (g.L.Sink.taken c.args.link) _ _ _ _ _ _ _ _ c.serve_session-end.result
           c.into_pass-pass.ensures.new c.serve_session-end.ensures.session c.finish.ensures.sent c.requires.fresh.0 c.requires.fresh.1 c.finish.ensures.failed_reads c.finish.ensures.failed_writes
           c.serve_session-end.ensures.serves;

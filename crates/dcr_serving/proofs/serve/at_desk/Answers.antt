@@ -2,6 +2,7 @@ use Rattle.std.proofs.Common.{◌≡◌, ◌≢◌, ◌+◌, ℕ, List, length, 
 use Rattle.std.specs.Prelude.{Option}
 use Rattle.std.specs.List.{All, Any}
 use Rattle.dcr_turn.specs.PassValue.{PassValue, new_passes}
+use Rattle.dcr_link.specs.Replies.{terms_of}
 use Rattle.dcr_serve.specs.Left.{numbers_from}
 use Rattle.dcr_link.specs.declared.end.WorkCause.TheVariants.{NoMemory}
 use Rattle.dcr_serving.specs.Placing.{HasRoom, filled}
@@ -20,7 +21,7 @@ returns-in_default-clause-served g c =
       failed_reads = g.B.Link.Rest.Spent.failed_reads;
       failed_writes = g.B.Link.Rest.Spent.failed_writes;
     })
-    g.N.StoreName.first g.N.TurnName.capacity c.args.cover.now.names c.args.graph.now.names (g.B.Door.links c.args.door) g.N.TurnName.turn.sessions c.args.passes.items c.new-in_default.result.items
+    g.N.StoreName.first g.N.TurnName.capacity (terms_of c.args.cover.now.names c.args.graph.now.names c.args.policy.now) (g.B.Door.links c.args.door) g.N.TurnName.turn.sessions c.args.passes.items c.new-in_default.result.items
     c.requires.passes c.new-in_default.ensures.items
 
 pub returns-in_default-clause-door : goal.returns-in_default-clause-door
@@ -115,7 +116,7 @@ returns-clause-served g c =
       failed_reads = g.B.Link.Rest.Spent.failed_reads;
       failed_writes = g.B.Link.Rest.Spent.failed_writes;
     })
-    g.N.StoreName.first g.N.TurnName.capacity c.args.cover.now.names c.args.graph.now.names g.B.Door.links g.B.Door.is_shut g.B.Door.faults g.M.DeskName.links g.M.DeskName.faults
+    g.N.StoreName.first g.N.TurnName.capacity (terms_of c.args.cover.now.names c.args.graph.now.names c.args.policy.now) g.B.Door.links g.B.Door.is_shut g.B.Door.faults g.M.DeskName.links g.M.DeskName.faults
     c.work_at-door.result.1.items c.len-sessions.result c.len.result n c.take_out.new.passes.items c.take_out.new.ends.items c.work_at-door.result.2 c.work_at-door.result.0 first taken at.served at.stands in
     let after = c.go_on-stand.ensures.goes_on g.M.DeskName.links g.M.DeskName.faults way.served way.stands way.still_open in
     let total : length c.take_out.new.passes.items + length c.work_at-door.result.1.items ≡ n = ap (λ (k : ℕ). k + length c.work_at-door.result.1.items) taken.passes_many ∙ first.total in
@@ -127,7 +128,7 @@ returns-clause-served g c =
       failed_reads = g.B.Link.Rest.Spent.failed_reads;
       failed_writes = g.B.Link.Rest.Spent.failed_writes;
     })
-    g.N.StoreName.first g.N.TurnName.capacity c.args.cover.now.names c.args.graph.now.names links n c.go_on-stand.new.passes.items c.go_on-stand.new.ends.items) (sym c.requires.links)
+    g.N.StoreName.first g.N.TurnName.capacity (terms_of c.args.cover.now.names c.args.graph.now.names c.args.policy.now) links n c.go_on-stand.new.passes.items c.go_on-stand.new.ends.items) (sym c.requires.links)
     (subst (λ (k : ℕ). AreServed (record {
       left = g.B.Link.Source.left;
       taken = g.B.Link.Sink.taken;
@@ -136,7 +137,7 @@ returns-clause-served g c =
       failed_reads = g.B.Link.Rest.Spent.failed_reads;
       failed_writes = g.B.Link.Rest.Spent.failed_writes;
     })
-    g.N.StoreName.first g.N.TurnName.capacity c.args.cover.now.names c.args.graph.now.names g.M.DeskName.links k c.go_on-stand.new.passes.items c.go_on-stand.new.ends.items) total after.0)
+    g.N.StoreName.first g.N.TurnName.capacity (terms_of c.args.cover.now.names c.args.graph.now.names c.args.policy.now) g.M.DeskName.links k c.go_on-stand.new.passes.items c.go_on-stand.new.ends.items) total after.0)
 
 pub returns-clause-door : goal.returns-clause-door
 returns-clause-door g c =
@@ -155,7 +156,7 @@ returns-clause-door g c =
       failed_reads = g.B.Link.Rest.Spent.failed_reads;
       failed_writes = g.B.Link.Rest.Spent.failed_writes;
     })
-    g.N.StoreName.first g.N.TurnName.capacity c.args.cover.now.names c.args.graph.now.names g.B.Door.links g.B.Door.is_shut g.B.Door.faults g.M.DeskName.links g.M.DeskName.faults
+    g.N.StoreName.first g.N.TurnName.capacity (terms_of c.args.cover.now.names c.args.graph.now.names c.args.policy.now) g.B.Door.links g.B.Door.is_shut g.B.Door.faults g.M.DeskName.links g.M.DeskName.faults
     c.work_at-door.result.1.items c.len-sessions.result c.len.result n c.take_out.new.passes.items c.take_out.new.ends.items c.work_at-door.result.2 c.work_at-door.result.0 first taken at.served at.stands in
     let after = c.go_on-stand.ensures.goes_on g.M.DeskName.links g.M.DeskName.faults way.served way.stands way.still_open in
     let total : length c.take_out.new.passes.items + length c.work_at-door.result.1.items ≡ n = ap (λ (k : ℕ). k + length c.work_at-door.result.1.items) taken.passes_many ∙ first.total in

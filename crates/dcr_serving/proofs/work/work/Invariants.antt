@@ -1,5 +1,6 @@
 use Rattle.std.proofs.Common.{◌≡◌, ◌-◌, ◌<◌, ◌≤◌, length, vec_capacity}
 use Rattle.std.specs.List.{All}
+use Rattle.dcr_link.specs.Replies.{terms_of}
 use Rattle.dcr_serving.specs.Serving.{IsServedOf}
 use Rattle.dcr_serving.proofs.work.work.Given as goal
 
@@ -17,7 +18,7 @@ invariant-loop-seat g l = record {
     failed_reads = g.B.Link.Rest.Spent.failed_reads;
     failed_writes = g.B.Link.Rest.Spent.failed_writes;
   })
-      g.N.StoreName.first g.N.TurnName.capacity l.cover.names l.graph.names g.M.DeskName.links one.pass one.end) l.hand.records.items;
+      g.N.StoreName.first g.N.TurnName.capacity (terms_of l.cover.names l.graph.names l.policy) g.M.DeskName.links one.pass one.end) l.hand.records.items;
 }
 
 abbrev pub decreases-loop-seat : goal.decreases-loop-seat

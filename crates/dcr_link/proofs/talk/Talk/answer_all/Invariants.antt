@@ -8,14 +8,13 @@ use Rattle.dcr_link.proofs.talk.Talk.answer_all.Given as goal
 abbrev pub invariant-loop-used : goal.invariant-loop-used
 invariant-loop-used g l = record {
   within : l.used ≤ length l.piece;
-  sites : l.self.sites ≡ l.initial.self.sites;
-  atoms : l.self.atoms ≡ l.initial.self.atoms;
+  terms : l.self.terms ≡ l.initial.self.terms;
   session : l.pass.session ≡ l.initial.pass.session;
   no_fewer : l.initial.pass.made ≤ l.pass.made;
   going : (before : PassValue) (came written : List ℕ)
-      → Going g.N.ClusterName.cluster g.N.StoreName.first g.N.TurnName.capacity l.initial.self.sites l.initial.self.atoms before l.initial.pass l.initial.self came written
+      → Going g.N.ClusterName.cluster g.N.StoreName.first g.N.TurnName.capacity l.initial.self.terms before l.initial.pass l.initial.self came written
       → (more : List ℕ) × Appends (g.L.Sink.taken l.initial.link) (g.L.Sink.taken l.link) more
-      × Going g.N.ClusterName.cluster g.N.StoreName.first g.N.TurnName.capacity l.initial.self.sites l.initial.self.atoms before l.pass l.self (came ++ take l.used l.piece) (written ++ more);
+      × Going g.N.ClusterName.cluster g.N.StoreName.first g.N.TurnName.capacity l.initial.self.terms before l.pass l.self (came ++ take l.used l.piece) (written ++ more);
   spare : bytes_spare l.self + l.used ≤ bytes_spare l.initial.self;
   apart : g.L.Sink.source_side l.link ≡ g.L.Sink.source_side l.initial.link;
   no_fault : g.L.Sink.write_faults l.link ≡ g.L.Sink.write_faults l.initial.link;

@@ -7,11 +7,10 @@ use Rattle.dcr_link.proofs.talk.Talk.hold.Goals as goal
 
 pub loop-n-init : goal.loop-n-init
 loop-n-init g c = record {
-  sites = refl;
-  atoms = refl;
+  terms = refl;
   session = refl;
   no_fewer = omega arith;
-  held = held_none g.N.ClusterName.cluster g.N.StoreName.first g.N.TurnName.capacity c.args.self.now.sites c.args.self.now.atoms c.args.pass.now c.args.self.now _ _ c.requires.counted c.requires.new.0 (c.requires.new.1, c.requires.new.2, c.requires.new.3);
+  held = held_none g.N.ClusterName.cluster g.N.StoreName.first g.N.TurnName.capacity c.args.self.now.terms c.args.pass.now c.args.self.now _ _ c.requires.counted c.requires.new.0 (c.requires.new.1, c.requires.new.2, c.requires.new.3);
   told = λ told. told;
   no_read_fault = refl;
   no_write_fault = refl;
@@ -19,14 +18,14 @@ loop-n-init g c = record {
 
 pub returns-in-Err-clause-serves : goal.returns-in-Err-clause-serves
 returns-in-Err-clause-serves g c =
-    held_fault g.N.ClusterName.cluster g.N.StoreName.first g.N.TurnName.capacity c.args.self.now.sites c.args.self.now.atoms c.args.pass.now c.loop-n.pass c.loop-n.self
+    held_fault g.N.ClusterName.cluster g.N.StoreName.first g.N.TurnName.capacity c.args.self.now.terms c.args.pass.now c.loop-n.pass c.loop-n.self
     (g.L.Source.left c.args.link.now) (g.L.Source.left c.loop-n.link) (g.L.Source.left c.read.new.self) (g.L.Sink.taken c.args.link.now) (g.L.Sink.taken c.loop-n.link) (g.L.Sink.taken c.read.new.self)
     c.loop-n.invariant.held (bytes_stay g.L.Source.sink_side g.L.Sink.taken g.L.Sink.write_faults g.met.L.Link.sink_is c.loop-n.link c.read.new.self c.read.ensures.apart) _
     c.in-Err.ensures.moved (inl (subst (λ (n : ℕ). Rose n (g.L.Source.read_faults c.read.new.self)) c.loop-n.invariant.no_read_fault c.in-Err.ensures.counted))
 
 pub returns-in-Ok-eq0-clause-serves : goal.returns-in-Ok-eq0-clause-serves
 returns-in-Ok-eq0-clause-serves g c =
-    held_input g.N.ClusterName.cluster g.N.StoreName.first g.N.TurnName.capacity c.args.self.now.sites c.args.self.now.atoms c.args.pass.now c.loop-n.pass c.loop-n.self
+    held_input g.N.ClusterName.cluster g.N.StoreName.first g.N.TurnName.capacity c.args.self.now.terms c.args.pass.now c.loop-n.pass c.loop-n.self
     (g.L.Source.left c.args.link.now) (g.L.Source.left c.loop-n.link) (g.L.Source.left c.read.new.self) (g.L.Sink.taken c.args.link.now) (g.L.Sink.taken c.loop-n.link) (g.L.Sink.taken c.read.new.self)
     c.loop-n.invariant.held (bytes_stay g.L.Source.sink_side g.L.Sink.taken g.L.Sink.write_faults g.met.L.Link.sink_is c.loop-n.link c.read.new.self c.read.ensures.apart) _
     (subst (λ (n : ℕ). Consumes (g.L.Source.left c.loop-n.link) (g.L.Source.left c.read.new.self) (take n c.read.new.buf)) c.in-Ok-eq0.field-0-test c.in-Ok-eq0.ensures.moved.0)
@@ -34,28 +33,27 @@ returns-in-Ok-eq0-clause-serves g c =
 
 pub returns-in-Some-clause-serves : goal.returns-in-Some-clause-serves
 returns-in-Some-clause-serves g c =
-    held_end g.N.ClusterName.cluster g.N.StoreName.first g.N.TurnName.capacity c.args.self.now.sites c.args.self.now.atoms c.args.pass.now c.loop-n.pass c.answer_all.new.pass c.loop-n.self c.answer_all.new.self (take c.in-Ok.n c.read.new.buf)
+    held_end g.N.ClusterName.cluster g.N.StoreName.first g.N.TurnName.capacity c.args.self.now.terms c.args.pass.now c.loop-n.pass c.answer_all.new.pass c.loop-n.self c.answer_all.new.self (take c.in-Ok.n c.read.new.buf)
     (g.L.Source.left c.args.link.now) (g.L.Source.left c.loop-n.link) (g.L.Source.left c.read.new.self) (g.L.Sink.taken c.args.link.now) (g.L.Sink.taken c.loop-n.link) (g.L.Sink.taken c.read.new.self) (g.L.Sink.taken c.answer_all.new.link)
     _ c.answer_all.result c.loop-n.invariant.held c.in-Ok.ensures.moved.0
     (bytes_stay g.L.Source.sink_side g.L.Sink.taken g.L.Sink.write_faults g.met.L.Link.sink_is c.loop-n.link c.read.new.self c.read.ensures.apart)
-    (goes_named g.N.ClusterName.cluster g.N.StoreName.first g.N.TurnName.capacity c.args.self.now.sites c.args.self.now.atoms c.loop-n.self.sites c.loop-n.self.atoms c.loop-n.pass c.answer_all.new.pass c.loop-n.self c.answer_all.new.self
-    (take c.in-Ok.n c.read.new.buf) (g.L.Sink.taken c.read.new.self) (g.L.Sink.taken c.answer_all.new.link) _ c.answer_all.result c.loop-n.invariant.sites c.loop-n.invariant.atoms c.answer_all.ensures.goes_on)
+    (goes_named g.N.ClusterName.cluster g.N.StoreName.first g.N.TurnName.capacity c.args.self.now.terms c.loop-n.self.terms c.loop-n.pass c.answer_all.new.pass c.loop-n.self c.answer_all.new.self
+    (take c.in-Ok.n c.read.new.buf) (g.L.Sink.taken c.read.new.self) (g.L.Sink.taken c.answer_all.new.link) _ c.answer_all.result c.loop-n.invariant.terms c.answer_all.ensures.goes_on)
     c.in-Some.cause _ c.in-Some.is
     (λ (fault : Rose (g.L.Sink.write_faults c.read.new.self) (g.L.Sink.write_faults c.answer_all.new.link)). inr (subst (λ (n : ℕ). Rose n (g.L.Sink.write_faults c.answer_all.new.link))
     (faults_stay g.L.Source.sink_side g.L.Sink.taken g.L.Sink.write_faults g.met.L.Link.sink_is c.loop-n.link c.read.new.self c.read.ensures.apart ∙ c.loop-n.invariant.no_write_fault) fault))
 
 pub loop-n-preserved : goal.loop-n-preserved
 loop-n-preserved g c = record {
-  sites = c.answer_all.ensures.names.0 ∙ c.loop-n.invariant.sites;
-  atoms = c.answer_all.ensures.names.1 ∙ c.loop-n.invariant.atoms;
+  terms = c.answer_all.ensures.terms ∙ c.loop-n.invariant.terms;
   session = c.answer_all.ensures.session ∙ c.loop-n.invariant.session;
   no_fewer = let a = c.answer_all.ensures.no_fewer in let b = c.loop-n.invariant.no_fewer in omega arith;
-  held = held_on g.N.ClusterName.cluster g.N.StoreName.first g.N.TurnName.capacity c.args.self.now.sites c.args.self.now.atoms c.args.pass.now c.loop-n.pass c.answer_all.new.pass c.loop-n.self c.answer_all.new.self (take c.in-Ok.n c.read.new.buf)
+  held = held_on g.N.ClusterName.cluster g.N.StoreName.first g.N.TurnName.capacity c.args.self.now.terms c.args.pass.now c.loop-n.pass c.answer_all.new.pass c.loop-n.self c.answer_all.new.self (take c.in-Ok.n c.read.new.buf)
       (g.L.Source.left c.args.link.now) (g.L.Source.left c.loop-n.link) (g.L.Source.left c.read.new.self) (g.L.Sink.taken c.args.link.now) (g.L.Sink.taken c.loop-n.link) (g.L.Sink.taken c.read.new.self) (g.L.Sink.taken c.answer_all.new.link)
       _ c.answer_all.result c.loop-n.invariant.held c.in-Ok.ensures.moved.0
       (bytes_stay g.L.Source.sink_side g.L.Sink.taken g.L.Sink.write_faults g.met.L.Link.sink_is c.loop-n.link c.read.new.self c.read.ensures.apart)
-      (goes_named g.N.ClusterName.cluster g.N.StoreName.first g.N.TurnName.capacity c.args.self.now.sites c.args.self.now.atoms c.loop-n.self.sites c.loop-n.self.atoms c.loop-n.pass c.answer_all.new.pass c.loop-n.self c.answer_all.new.self
-      (take c.in-Ok.n c.read.new.buf) (g.L.Sink.taken c.read.new.self) (g.L.Sink.taken c.answer_all.new.link) _ c.answer_all.result c.loop-n.invariant.sites c.loop-n.invariant.atoms c.answer_all.ensures.goes_on)
+      (goes_named g.N.ClusterName.cluster g.N.StoreName.first g.N.TurnName.capacity c.args.self.now.terms c.loop-n.self.terms c.loop-n.pass c.answer_all.new.pass c.loop-n.self c.answer_all.new.self
+      (take c.in-Ok.n c.read.new.buf) (g.L.Sink.taken c.read.new.self) (g.L.Sink.taken c.answer_all.new.link) _ c.answer_all.result c.loop-n.invariant.terms c.answer_all.ensures.goes_on)
       (g.L.Source.left c.answer_all.new.link)
       (bytes_stay g.L.Sink.source_side g.L.Source.left g.L.Source.read_faults g.met.L.Link.source_is c.read.new.self c.answer_all.new.link c.answer_all.ensures.apart) c.in_default.is;
   told = λ told. subst (λ (l : Option (List ℕ)). IsSome l)

@@ -7,11 +7,10 @@ use Rattle.dcr_link.proofs.talk.Talk.hold.Given as goal
 
 abbrev pub invariant-loop-n : goal.invariant-loop-n
 invariant-loop-n g l = record {
-  sites : l.self.sites ≡ l.initial.self.sites;
-  atoms : l.self.atoms ≡ l.initial.self.atoms;
+  terms : l.self.terms ≡ l.initial.self.terms;
   session : l.pass.session ≡ l.initial.pass.session;
   no_fewer : l.initial.pass.made ≤ l.pass.made;
-  held : Held g.N.ClusterName.cluster g.N.StoreName.first g.N.TurnName.capacity l.initial.self.sites l.initial.self.atoms l.initial.pass l.pass l.self
+  held : Held g.N.ClusterName.cluster g.N.StoreName.first g.N.TurnName.capacity l.initial.self.terms l.initial.pass l.pass l.self
       (g.L.Source.left l.initial.link) (g.L.Source.left l.link) (g.L.Sink.taken l.initial.link) (g.L.Sink.taken l.link);
   told : IsSome (g.L.Source.left l.initial.link) → IsSome (g.L.Source.left l.link);
   no_read_fault : g.L.Source.read_faults l.link ≡ g.L.Source.read_faults l.initial.link;

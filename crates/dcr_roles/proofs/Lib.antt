@@ -1,0 +1,11 @@
+pub mod WordLemmas
+pub mod PartLemmas
+pub mod AllowedLemmas
+pub mod PolicyLemmas
+pub mod LawLemmas
+pub mod AcceptedLemmas
+pub mod NumberLemmas
+pub mod TextLemmas
+pub mod UserLemmas
+pub mod RoleLemmas
+pub mod ReadLemmas

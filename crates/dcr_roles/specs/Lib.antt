@@ -1,0 +1,9 @@
+pub mod Written
+pub mod Parts
+pub mod Policy
+pub mod Allowed
+pub mod Read
+pub mod Numbering
+pub mod Words
+pub mod Accepted
+pub mod Laws
