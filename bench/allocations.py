@@ -1,12 +1,13 @@
 #!/usr/bin/env python3
 """Refuses each allocation of the program in turn, and shows that its calls take no memory.
 
-    bench/allocations.py             six rows: examples/medication.json by `run`, the same by `run --store` in an
+    bench/allocations.py             seven rows: examples/medication.json by `run`, the same by `run --store` in an
                                      empty folder, its executions by `nodes 5`, examples/laboratory.stages by `adapt`,
                                      examples/medication.log by `conform`, and the graph by `serve`, with a connection
-                                     that sends four lines
-    bench/allocations.py trace ROW   each allocation of a row (run, store, nodes, adapt, conform, serve): its number, its bytes, and the
-                                     functions that may have asked for it, the nearest first; calls of the system
+                                     that sends four lines; and the graph with roles (`denied`), by a connection that is
+                                     denied the first of three
+    bench/allocations.py trace ROW   each allocation of a row (run, store, nodes, adapt, conform, serve, denied): its number, its bytes,
+                                     and the functions that may have asked for it, the nearest first; calls of the system
                                      stand between
 
 allocations.c, compiled here by gcc, stands before the C library's allocator. Of a row the first allocation is refused,
@@ -20,8 +21,8 @@ Then the rows run with nothing refused, and for each allocation every function t
 not, is looked up in the program's symbols: none may be a function of a cluster that is open (`Cluster::call`, `close`
 and those that they are made of), but for the disk of `store`, whose copy of the file grows. Since a function can have
 been written into its caller, which the symbols don't show, there are two more proofs: of `store`, that nothing is asked
-for between the first append to the tape and the last one, and of `serve`, that nothing is between the first reply and
-the last one, of a thousand as of ten.
+for between the first append to the tape and the last one, and of `serve` and `denied`, that nothing is between the first
+reply and the last one, of a thousand as of ten.
 
 The status is 1 where one of this doesn't hold. It needs gcc and nm; and for `serve` the port 7411, or leave to have a
 network of its own.
@@ -29,6 +30,7 @@ network of its own.
 
 import bisect
 import collections
+import json
 import os
 import re
 import subprocess
@@ -59,6 +61,18 @@ DISK = re.compile(r"dcr_base::file_disk\b")
 def example(name="medication.json"):
     with open(os.path.join(TOP, "examples", name), "rb") as file:
         return file.read()
+
+
+def with_roles():
+    """The case of the example without its sessions, in which a doctor alone may prescribe and a nurse alone may give."""
+    file, roles = json.loads(example()), {"pm": ["doc"], "gm": ["nur"]}
+    events = [{**event, **({"roles": roles[event["name"]]} if event["name"] in roles else {})} for event in file["graph"]["events"]]
+    served = {"version": "3", "graph": {**file["graph"], "events": events}, "cover": file["cover"]}
+    return json.dumps({**served, "users": [{"user": "ann", "roles": ["doc"]}], "by": ["ann"]}).encode()
+
+
+# The rows over a connection: the case, and the lines that are sent.
+SERVED = {"serve": (example, LINES), "denied": (with_roles, [b"exec nurse gm", b"exec doctor pm", b"look nurse"])}
 
 
 def library(folder):
@@ -93,10 +107,12 @@ def run_row(how, *words, command="run", name="medication.json"):
     return (*told_by(subprocess.run([DCR, command, *words], input=example(name), **how)), b"")
 
 
-def serve_row(how, lines=tuple(LINES)):
-    words = [DCR, "serve", "--sessions", "1", "--workers", "1"]
+def serve_row(how, row, count=None):
+    """The lines of a row, or so many of them round and round."""
+    words, (case, lines) = [DCR, "serve", "--sessions", "1", "--workers", "1"], SERVED[row]
+    lines = [lines[k % len(lines)] for k in range(len(lines) if count is None else count)]
     with Network.port(), tempfile.TemporaryFile() as file:
-        file.write(example())
+        file.write(case())
         file.seek(0)
         program = subprocess.Popen(words, stdin=file, stdout=subprocess.PIPE, stderr=subprocess.PIPE, **how)
         link = connected(program)
@@ -107,7 +123,8 @@ def serve_row(how, lines=tuple(LINES)):
 
 
 ROWS = {"run": run_row, "store": lambda how: run_row(how, "--store"), "nodes": lambda how: run_row(how, "5", command="nodes")}
-ROWS.update({"adapt": lambda how: run_row(how, command="adapt", name="laboratory.stages"), "conform": lambda how: run_row(how, command="conform", name="medication.log"), "serve": serve_row})
+ROWS.update({"adapt": lambda how: run_row(how, command="adapt", name="laboratory.stages"), "conform": lambda how: run_row(how, command="conform", name="medication.log")})
+ROWS.update({"serve": lambda how: serve_row(how, "serve"), "denied": lambda how: serve_row(how, "denied")})
 
 
 # ---- each allocation refused in turn
@@ -131,11 +148,11 @@ def goes_on(tape):
         return (ran.returncode, ran.stdout, room.tape()) == stored.answer(example(), tape)
 
 
-def reports_served():
+def reports_served(row):
     """The reports of a serving that ended behind its first lines, and the replies to them."""
-    found = []
-    for count in range(len(LINES) + 1):
-        _, report, told = linked.answer(example(), [b"".join(line + b"\n" for line in LINES[:count])])
+    found, (case, lines) = [], SERVED[row]
+    for count in range(len(lines) + 1):
+        _, report, told = linked.answer(case(), [b"".join(line + b"\n" for line in lines[:count])])
         found.append((report, told[0]))
     return found
 
@@ -166,7 +183,7 @@ def wrong(row, seen):
         return "the tape can't be gone on from"
     if row == "store" and status == DISK_FAULT:
         return None if is_unkept(wrote, seen.tape) else "a fault of the disk with another report or tape"
-    wholes = reports_served() if row == "serve" else [(whole(row), b"")]
+    wholes = reports_served(row) if row in SERVED else [(whole(row), b"")]
     if status not in (DONE, NO_MEMORY):
         return "status %d" % status
     if status == DONE and (wrote, replies) != wholes[-1]:
@@ -254,14 +271,14 @@ def shown_by_appends(path):
 def shown_by_lines(path):
     """Whether nothing is asked for between the first reply and the last one."""
     counts = []
-    for count in (10, 1_000):
-        ROWS["many"] = lambda how, many=count: serve_row(how, [LINES[k % 4] for k in range(many)])
+    for row, count in ((row, count) for row in SERVED for count in (10, 1_000)):
+        ROWS["many"] = lambda how, row=row, many=count: serve_row(how, row, many)
         lines = Watched(path, "many").lines
         replies = [at for at, line in enumerate(lines) if line[0] == "send"]
         counts.append(sum(line[0] == "asked" for line in lines[replies[0] : replies[-1]]))
-        print("serve: %d replies, %d allocations between them" % (len(replies), counts[-1]))
+        print("%s: %d replies, %d allocations between them" % (row, len(replies), counts[-1]))
     del ROWS["many"]
-    return counts == [0, 0]
+    return not any(counts)
 
 
 def main(words):

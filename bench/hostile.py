@@ -5,12 +5,13 @@
 
 The kinds:
 
-    run        case files, changed in bytes, words, members and values: the refusal's line, or the report (reader.py)
+    run        case files of all versions, with roles and without, changed in bytes, words, members and values: the
+               refusal's line, or the report (reader.py)
     replay     reports, changed likewise: the first wrong line and its kind, or that they are valid (replay.py)
     store      tapes of both versions in the file dcr.tape, changed likewise: the report or the refusal, and the file's
                bytes behind the run (stored.py)
     conform    cases with an event log behind them, changed likewise: a line for each trace, or the refusal's (traces.py)
-    serve      what one to three connections send: each byte of the replies, and the report (linked.py)
+    serve      what one to three connections send, denied calls too: each byte of the replies, and the report (linked.py)
     outside    the same commands where memory, output, input, disk, port or connections fail: no status but those of
                docs/FORMATS.md, with what the table says was written (outside.py, outside_disk.py, outside_link.py)
     all        each of these
@@ -58,7 +59,7 @@ MOST_MADE_SMALLER = 20_000
 def label_of_line(line):
     """What a line of an answer is counted as."""
     words = line.split(b"\n")[0].decode("latin-1").split(" ")
-    return " ".join(words[: 4 if words[1:2] in (["3"], ["4"]) else 3])
+    return " ".join(words[: 4 if words[1:2] in (["3"], ["4"], ["16"]) else 3])
 
 
 def try_run(draw, edge=None):

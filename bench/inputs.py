@@ -7,7 +7,7 @@ import mutate
 import reader
 import replay
 import stored
-from model import KINDS, Case, random_case
+from model import KINDS, Case, give_roles, random_case
 
 # ---- case files
 
@@ -15,7 +15,7 @@ from model import KINDS, Case, random_case
 def with_more(draw, file):
     """The case with something more, or something else, that the format has a rule on."""
     graph, events = file["graph"], file["graph"]["events"]
-    names, way = [event["name"] for event in events] + ["zz"], draw.randrange(9)
+    names, way = [event["name"] for event in events] + ["zz"], draw.randrange(13)
     event, site = draw.choice(events), draw.choice(file["cover"])
     if way == 0:
         event[draw.choice(reader.MARKS)] = draw.random() < 0.5
@@ -33,11 +33,26 @@ def with_more(draw, file):
     elif way == 6:
         event["label"] = draw.choice(["x" * 200, "x" * 201, "é" * 100, "é" * 100 + "x", ""])
     elif way == 7:
-        file["version"] = draw.choice(["1", "2", "3", "", "01", 1, None])
+        file["version"] = draw.choice(["1", "2", "3", "3", "4", "", "03", 3, None])
+    elif way == 8:
+        event["roles"] = draw.choice(ROLES)
+    elif way == 9:
+        file["users"] = draw.choice([None, {}, "u0", [*file.get("users", []), draw.choice(USERS)], [draw.choice(USERS) for _ in range(3)]])
+    elif way == 10:
+        file["by"] = draw.choice([None, {}, "u0", [*file.get("by", []), draw.choice(["u0", "u1", "zz", None, 1])], ["u1", "u0"], []])
+    elif way == 11:
+        file["version"] = "3"
+        give_roles(draw, file)
     else:
         calls = ["look s0", "exec s0 e0", "exec s0 e1", "enabled s9", "accepting", "accepting ", "", "exec s0 e0 e0"]
         file["sessions"].append([draw.choice(calls)])
     return file
+
+
+# Roles as an event or a user may have them, or nearly; and users.
+ROLES = [["r0"], ["r1", "r0", "r1"], [], ["r" * 64], ["r" * 65], ["1r"], [""], [1], [None], [["r0"]], "r0", {}, None, True]
+USERS = [{"user": "u0", "roles": ["r0", "r1"]}, {"user": "u1", "roles": []}, {"user": "u" * 64, "roles": ["r1"]}, {"user": "u" * 65, "roles": []}]
+USERS += [{"user": "u0"}, {"roles": ["r0"]}, {"user": 1, "roles": []}, {"user": "1u", "roles": []}, *[{"user": "u2", "roles": it} for it in ROLES], "u0", None, [], {}]
 
 
 def nest_of(k):
@@ -72,7 +87,7 @@ def changed_case(draw):
     """A case, mostly changed in one way or several."""
     text = random_case(draw).encode()
     for _ in range(draw.choice((0, 1, 1, 1, 1, 2, 2, 3))):
-        way = draw.randrange(10)
+        way = draw.randrange(11)
         if way < 3:
             text = mutate.change_bytes(draw, text)
         elif way == 3:
@@ -91,7 +106,35 @@ def more_of(draw, text):
         return text
 
 
+def many_roles(count, calls):
+    """A nest with so many roles above 1,000 atoms, a user with as many others, and behind them the one role that both have:
+    so many calls, of which each is allowed for want of nothing but the last."""
+    nest = {"name": "n", "roles": [*["r%d" % k for k in range(count)], "last"]}
+    events = [nest, *[{"name": "e%d" % k, "parent": "n"} for k in range(1_000)]]
+    users = [{"user": "u", "roles": [*["s%d" % k for k in range(count)], "last"]}]
+    sessions = [["exec x e%d" % (k % 1_000) for k in range(calls - 1)], ["exec x e0"]]
+    file = {"version": "3", "graph": {"events": events}, "cover": [{"site": "x", "events": ["n"]}], "users": users, "by": ["u"], "sessions": sessions}
+    return json.dumps(file, separators=(",", ":")).encode()
+
+
+def edges_of_policies():
+    """Files of version 3 that stand at a limit, or are sent to do harm; and most of them in version 2."""
+    yield many_roles(620_000, 200_000)
+    small = {"version": "3", "graph": {"events": [{"name": "e0", "roles": ["r" * 64]}]}, "cover": [{"site": "s0", "events": ["e0"]}], "sessions": [["exec s0 e0"]]}
+    files = []
+    for users, by in (([], []), ([{"user": "u", "roles": ["r" * 64]}], ["u"] * 1_000_000), ([{"user": "u%d" % k, "roles": []} for k in range(300_000)], ["u299999", "u0", "zz"])):
+        files.append(json.dumps({**small, "users": users, "by": by}).encode())
+    nests = [{"name": "e%d" % k, **({"parent": "e%d" % (k - 1)} if k else {"roles": ["r"]})} for k in range(2048)]
+    for roles in (["r"], ["q"]):
+        deep = {"events": nests}, [{"site": "s0", "events": ["e0"]}], [{"user": "u", "roles": roles}], [["look s0", "exec s0 e2047"]]
+        files.append(json.dumps(dict(zip(("graph", "cover", "users", "sessions"), deep), version="3", by=["u"])).encode())
+    for text in files:
+        yield text
+        yield text.replace(b'"version":"3"', b'"version":"2"', 1).replace(b'"version": "3"', b'"version": "2"', 1)
+
+
 def edges_of_run():
+    yield from edges_of_policies()
     yield b" " * reader.MOST_BYTES
     yield b" " * (reader.MOST_BYTES + 1)
     small = at_limit("calls", 3)
@@ -324,6 +367,10 @@ def edges_of_serve():
     yield text, [b"x\n" * 200_000]
     yield text, [b"x\n" * 200_000 + b"x"]
     yield text, [b"accepting\n" * 199_999, b"accepting\nx\naccepting\naccepting\n", b"accepting\n", b"x\n"]
+    # (what is denied is an answered line, and is denied in a full history too)
+    text = text.replace(b'"name": "e0"', b'"name": "e0", "roles": ["r"]').replace(b"{", b'{"version": "3", ', 1)
+    yield text, [b"exec s0 e0\n" * 200_000 + b"x"]
+    yield text, [b"accepting\n" * 199_999, b"accepting\nexec s0 e0\nx\naccepting\n", b"exec s0 e0\naccepting\n"]
 
 
 # ---- event logs

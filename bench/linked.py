@@ -66,11 +66,15 @@ class Serving:
             line = data[at:end]
             call = self.call_of(line[:-1] if line.endswith(b"\r") else line)
             at, answered = end + 1, answered + 1
-            if call is not None and self.halt():
+            denied = None if call is None else self.case.denied(self.links, call)
+            if call is None or denied is not None:
+                yield b"bad-line" if call is None else b"denied " + denied.encode()
+                continue
+            if self.halt():
                 yield self.halt()
                 return
-            yield b"bad-line" if call is None else self.entry(call, seq)
-            seq += call is not None
+            yield self.entry(call, seq)
+            seq += 1
         yield b"many-lines"
 
     def link(self, data):

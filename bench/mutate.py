@@ -7,7 +7,8 @@ A JSON text is changed as a tree whose nodes are lists, so that a key can stand 
 import json
 import sys
 
-MEMBERS = """version graph events relations name parent label executed pending included cover site sessions""".split()
+MEMBERS = """version graph events relations name parent label executed pending included roles cover site sessions users
+user by""".split()
 NUMERALS = """0 -0 00 01 -01 1. .5 1.5 -1.5 - + +1 1e 1e+ 1e5 1E-5 1e400 -1e400 1e-400 0e400 1e308 1e1.5 0.e1 1e--1
 1.7976931348623157e308 1.7976931348623158e308 1.7976931348623159e308 -0.0 -0e-0 4.9e-324 2.4e-324 2.5e-324
 179769313486231570814527423731704356798070567525844996598917476803e243 18446744073709551615 18446744073709551616
@@ -18,7 +19,7 @@ inf 0x10 1_000 tru true1 nulll none None True ' undefined""".split()
 TEXTS = [
     *rb"""\ud800 \udc00 \ud83d\ude00 \ud83d\u0041 \ude00\ud83d \uD83D \ud83d\ud83d\ude00 \ud83dx \u0000 \u00e9
     \u0061 \u006 \u00g1 \x41 \a \/ \b\f\n\r\t\"\\ \u2028 \U0041 \u+041 \ \"
-    1a a,b - a-._9 _a e0 s0 accepting cancel""".split(),
+    1a a,b - a-._9 _a e0 s0 r0 u0 1 2 3 4 accepting cancel""".split(),
     *(b"", b"\x00", b"\x1f", b"\x7f", b"\n", b"\t", b"\r", b"\xff", b"\xc3", b"\xc3\xa9", b"\xc0\x80", b"\xc1\xbf"),
     *(b"\xe0\x80\x80", b"\xed\xa0\x80", b"\xed\x9f\xbf", b"\xee\x80\x80", b"\xef\xbf\xbf", b"\xf0\x9f\x98\x80"),
     *(b"\xf0\x80\x80\x80", b"\xf4\x8f\xbf\xbf", b"\xf4\x90\x80\x80", b"\xf5\x80\x80\x80", b"\xef\xbb\xbf", b"\xe2\x80"),

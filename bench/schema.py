@@ -25,12 +25,13 @@ SCHEMA = os.path.join(TOP, "docs/case.schema.json")
 TYPES = {"object": dict, "array": list, "string": str, "boolean": bool}
 # These relate two places of a file, or have a label of 200 characters and more bytes, which a schema can't say.
 BEYOND_A_SCHEMA = {"5-event-name", "6-parent", "7-mark-on-nest", "8-relation-end", "9-clash", "10-owned", "10-site-name", "11-uncovered", "12-call-line"}
+BEYOND_A_SCHEMA |= {"16-policy-user", "16-policy-by", "17-denied"}
 
 
 def wrong(value, rule, whole, at="$"):
     """Where a value breaks the rule: the first place and why, or None."""
     if rule is False:
-        return "%s: too many" % at
+        return "%s: nothing may stand here" % at
     if "$ref" in rule:
         found = wrong(value, whole["$defs"][rule["$ref"].rpartition("/")[2]], whole, at)
         if found:
@@ -47,7 +48,7 @@ def wrong(value, rule, whole, at="$"):
     if not found and "if" in rule:
         branch = "else" if wrong(value, rule["if"], whole, at) else "then"
         found = wrong(value, rule.get(branch, {}), whole, at)
-    return found
+    return found or next(filter(None, (wrong(value, it, whole, at) for it in rule.get("allOf", []))), None)
 
 
 def wrong_inside(value, rule, whole, at):
@@ -72,9 +73,9 @@ def wrong_inside(value, rule, whole, at):
 def spoilt(draw, case):
     """The case with one thing changed that the schema refuses, and what was changed."""
     case = copy.deepcopy(case)
-    places = [case, case["graph"], *case["graph"]["events"], *case["cover"]]
+    places = [case, case["graph"], *case["graph"]["events"], *case["cover"], *case.get("users", [])]
     calls = [(session, k) for session in case.get("sessions", []) for k in range(len(session))]
-    way = draw.randrange(4 if calls else 3)
+    way = draw.randrange(5 if calls else 4)
     it = draw.choice(places)
     if way == 0:
         name = draw.choice(sorted(it))
@@ -83,10 +84,24 @@ def spoilt(draw, case):
         it[draw.choice(["note", "comment", "incldued", "parrent"])] = "a note"
     elif way == 2:
         it[draw.choice(sorted(it))] = draw.choice([None, 1, [1], {"a": 1}])
+    elif way == 3:
+        spoil_roles(draw, case)
     else:
         session, k = draw.choice(calls)
         session[k] = draw.choice([session[k] + " ", " " + session[k], session[k] + " x", session[k].replace(" ", "  ") + " ", session[k].upper(), "", "exec", "look", "step a b"])
     return way, case
+
+
+def spoil_roles(draw, case):
+    """Gives the case roles, users or sessions of users that are none, or that are of version 3 where it is of another."""
+    event, is_third = draw.choice(case["graph"]["events"]), case.get("version") == "3"
+    names = ["1r", "r 1", "", "r" * 65, None, 1]
+    ways = [(event, "roles", [draw.choice(names)]), (case, "users", [{"user": "u9", "roles": [draw.choice(names)]}])]
+    ways += [(case, "users", [draw.choice([{"user": "u9"}, {"roles": []}, {"user": "1", "roles": []}, "u9"])]), (case, "by", [draw.choice(names)])]
+    if not is_third:
+        ways = [(event, "roles", ["r1"]), (event, "roles", []), (case, "users", [{"user": "u9", "roles": ["r1"]}]), (case, "users", []), (case, "by", [])]
+    of, member, value = draw.choice(ways)
+    of[member] = value
 
 
 def validator_of_a_library():

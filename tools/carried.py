@@ -18,7 +18,7 @@ import subprocess
 import sys
 
 from command import Usage, Wrong, command
-from model import PROGRAM, Case, random_case
+from model import PROGRAM, Case, give_roles, leave_out_denied, random_case
 from reader import MOST_BYTES, Refused, read_case, refuse
 from stages import MOST_CASES, lines_of
 
@@ -161,6 +161,30 @@ def changed(draw, file):
     draw.shuffle(case["cover"])
     calls = ["exec s%d %s" % (draw.randrange(sites), draw.choice(atoms)) for _ in range(draw.randint(0, 9))]
     case["sessions"] = [calls[::2], ["look s0", "accepting"], calls[1::2]]
+    return with_other_roles(draw, case)
+
+
+def refusal_of(case):
+    """The line by which a case is refused; nothing where it isn't."""
+    try:
+        read_case(json.dumps(case).encode())
+    except Refused as refusal:
+        return str(refusal)
+    return ""
+
+
+def with_other_roles(draw, case):
+    """The case with other roles, users, or sessions of users, where it is of version 3 or becomes it; mostly no call is
+    denied then."""
+    if draw.random() < 0.3:
+        case["version"] = draw.choice(["2", "3", "3"])
+    if case.get("version") == "3" and draw.random() < 0.5:
+        give_roles(draw, case)
+    if draw.random() < 0.7 and refusal_of(case).startswith("refused 17 "):
+        leave_out_denied(case)
+    if draw.random() < 0.05:
+        event, other = draw.choice(case["graph"]["events"]), draw.choice([1, None, "r0", ["1r"], [{}]])
+        draw.choice([event, case]).update({draw.choice(["roles", "users", "by"]): other})
     return case
 
 

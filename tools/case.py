@@ -14,7 +14,11 @@ MEMBERS = {
     "graph": ["events", "relations"],
     "event": ["name", "parent", "label", "executed", "pending", "included"],
     "site": ["site", "events"],
+    "user": [],
 }
+# Those that they have besides in version 3.
+WITH_ROLES = "3"
+OF_ROLES = {"top": ["users", "by"], "event": ["roles"], "user": ["user", "roles"]}
 # The member by which editors find the schema, which is passed over rightly.
 OF_EDITORS = "$schema"
 SPACE = re.compile(r"[ \t\n\r]*")
@@ -199,6 +203,11 @@ class File:
         self.nests = {it for it in self.parents if it is not None}
         self.atoms = [it for it in self.names if it not in self.nests]
         self.sites = self.texts(self.cover, "site")
+        version = top.get("version")
+        self.has_roles = version is not None and version.value == WITH_ROLES
+        self.users = self.part(top, "users") if self.has_roles else []
+        self.by = self.part(top, "by") if self.has_roles else []
+        self.user_names = self.texts(self.users, "user")
 
     def part(self, of, name):
         found = of.get(name)
@@ -217,6 +226,23 @@ class File:
             name = above.get(name)
         return found
 
+    def roles(self, value):
+        """The roles that an event or a user names, as they are written."""
+        return self.part(value, "roles") if self.has_roles else []
+
+    def event(self, name):
+        """The event of this name as it is written; of several the last."""
+        return next(it for it, own in zip(reversed(self.events), reversed(self.names)) if own == name)
+
+    def user_of(self, session):
+        """The user of a session as it is written; None where it has none."""
+        name = self.by[session].value if session < len(self.by) else None
+        return next((it for it, own in zip(self.users, self.user_names) if own == name), None) if name is not None else None
+
+    def asked(self, name):
+        """The roles that an event asks for, as they are written: its own, then those of its nest, and so on upwards."""
+        return [role for it in self.ways_up(name) for role in self.roles(self.event(it))]
+
     def objects(self):
         """Each object that has members of the format: its kind and itself."""
         yield "top", self.top
@@ -224,6 +250,15 @@ class File:
             yield "graph", self.graph
         yield from (("event", it) for it in self.events if it.is_a(dict))
         yield from (("site", it) for it in self.cover if it.is_a(dict))
+        yield from (("user", it) for it in self.users if it.is_a(dict))
+
+    def members(self, kind):
+        """The members that objects of a kind have in this version."""
+        return MEMBERS[kind] + (OF_ROLES.get(kind, []) if self.has_roles else [])
+
+    def is_of_roles(self, kind, key):
+        """Whether this is a member that version 3 alone has, and the file is of another."""
+        return not self.has_roles and key in OF_ROLES.get(kind, [])
 
     def passed_over(self):
         """Each member that is passed over: the kind of its object, its name, its place, and whether it's only the earlier of two."""
@@ -232,7 +267,7 @@ class File:
             for at, (key, where, _) in enumerate(it.members):
                 if kind == "top" and key == OF_EDITORS:
                     continue
-                if key not in MEMBERS[kind]:
+                if key not in self.members(kind):
                     yield kind, key, where, False
                 elif key in keys[at + 1 :]:
                     yield kind, key, where, True

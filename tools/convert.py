@@ -119,8 +119,8 @@ def without_clashes(graph, order, relations, tell):
     return found
 
 
-def event_of(graph, it, names, tell):
-    """The event as the case has it."""
+def event_of(graph, it, names, roles, tell):
+    """The event as the case has it; with its roles, where there are names for them."""
     event = {"name": names.of(it)}
     label = graph.labels.get(it) or it
     short = label.encode()[:MOST_LABEL].decode(errors="ignore")
@@ -133,14 +133,21 @@ def event_of(graph, it, names, tell):
     if it not in graph.nests:
         event.update({mark: True for mark in ("executed", "pending") if it in graph.marks[mark]})
         event.update({} if it in graph.marks["included"] else {"included": False})
+    own = [*dict.fromkeys(graph.roles.get(it) or [])] if roles else []
+    if own and it in graph.nests:
+        tell("left out: the roles of the nest %s (%s), which would be those of all events below it" % (it, ", ".join(own)))
+    elif own:
+        event["roles"] = [roles.of(role) for role in own]
     return event
 
 
-def converted(graph, site, tell):
-    """The case of a graph, where all events stand at the site, if one is named. What is left out or renamed is told."""
+def converted(graph, site, has_roles, tell):
+    """The case of a graph, where all events stand at the site, if one is named; with its roles, or else with a site for
+    each. What is left out or renamed is told."""
     order = in_order(graph, tell)
     names, sites = Names("event", tell), Names("site", tell)
-    events = [event_of(graph, it, names, tell) for it in order]
+    roles_of_events = Names("role", tell) if has_roles else None
+    events = [event_of(graph, it, names, roles_of_events, tell) for it in order]
     for it in order:
         for mark in ("executed", "pending"):
             if it in graph.nests and it in graph.marks[mark]:
@@ -161,7 +168,7 @@ def converted(graph, site, tell):
             rest = sites.new("all")
         for name in [site] if site else [sites.of(role) for role in dict.fromkeys(own)] or [rest]:
             owned.setdefault(name, []).append(names.of(it))
-    file = {"version": "2"} if any(it[0] == "cancel" for it in relations) else {}
+    file = {"version": "3"} if has_roles else {"version": "2"} if any(it[0] == "cancel" for it in relations) else {}
     file["graph"] = {"events": events, "relations": relations}
     file["cover"] = [{"site": name, "events": own} for name, own in owned.items()]
     return file
@@ -173,15 +180,15 @@ def written(file):
     def lines(values):
         return ",\n   ".join(json.dumps(it, ensure_ascii=False) for it in values)
 
-    graph, head = file["graph"], '"version":"2",\n ' if "version" in file else ""
+    graph, head = file["graph"], '"version":"%s",\n ' % file["version"] if "version" in file else ""
     return '{%s"graph":{\n  "events":[\n   %s],\n  "relations":[\n   %s]},\n "cover":[\n   %s]}\n' % (head, lines(graph["events"]), lines(graph["relations"]), lines(file["cover"]))
 
 
-def put_case(graph, site, tell):
+def put_case(graph, site, tell, has_roles=False):
     """Writes the case of a graph, and tells where dcr would refuse it. Answers the status: 1 there, else 0."""
     import reader
 
-    text = written(converted(graph, site, tell))
+    text = written(converted(graph, site, has_roles, tell))
     print(text, end="")
     try:
         reader.read_case(text.encode())

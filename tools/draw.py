@@ -10,9 +10,11 @@
 The relations are drawn as the field draws them: condition with a dot at the arrow's head, response with one at its
 tail, include +, exclude %, milestone with a diamond, cancel with a cross. An event that is excluded at opening has a
 dashed border; one that is pending has a !, one that is executed a check mark. The sites that own an event stand at its
-head in their colours. The page needs no network; a slider or the arrow keys go over the calls, and show at each place the
-marks, each site's own, what may be executed there, and what an execution changed. A case must be one that dcr accepts,
-and a report one that it finds valid. The status is 0, or 2 where the words are others or a file is missing or not such.
+head in their colours, and below its label the roles that it asks for, one of which will do: `by doctor or nurse`. Those
+of a nest stand behind its name, and are those of all that is in it too. The page needs no network; a slider or the arrow
+keys go over the calls, and show at each place the marks, each site's own, what may be executed there by the marks, and
+what an execution changed. A case must be one that dcr accepts, and a report one that it finds valid. The status is 0, or
+2 where the words are others or a file is missing or not such.
 """
 
 import html
@@ -38,6 +40,8 @@ KINDS = {
     "milestone": ("#9331b8", "◆"),
     "cancel": ("#7a4b2a", "×"),
 }
+# How many of an event's roles are shown.
+MOST_ROLES = 6
 COLOURS = ["#cfe4fa", "#fde2bf", "#d5efcf", "#f2d5f0", "#fbf2ae", "#d9d9f3", "#fbd3d3", "#cdeeea"]
 
 
@@ -51,6 +55,13 @@ def colour_of(case, site):
 
 def owners(case, atom):
     return [name for name, owned in case.sites if atom in owned]
+
+
+def roles_of(case, name):
+    """Whom an event or a nest asks for by roles of its own; nothing where it has none."""
+    own = [*dict.fromkeys(case.policy.own[name])]
+    shown = [shortened(it, 19) for it in own[:MOST_ROLES]] + ["…"] * (len(own) > MOST_ROLES)
+    return "by " + " or ".join(shown) if own else ""
 
 
 def marks_of(case, atom):
@@ -138,7 +149,7 @@ def draw_relation(picture, points, kind):
 def draw_box(picture, case, box, events):
     if box.inside:
         picture.box(box.x, box.y, box.width, box.height, "#f7f7f7", "#888888", corner=9)
-        picture.text(box.x + 12, box.y + 18, " ".join(box.lines), 12, "start", "#444444", "bold")
+        picture.text(box.x + 12, box.y + 18, ", ".join(filter(None, (" ".join(box.lines), " ".join(box.notes)))), 12, "start", "#444444", "bold")
         for it in box.inside:
             draw_box(picture, case, it, events)
         return
@@ -151,6 +162,8 @@ def draw_box(picture, case, box, events):
         picture.text(box.x + 1 + (k + 0.5) * wide, box.y + 13, site, 10, fill="#333333")
     for k, line in enumerate(box.lines):
         picture.text(box.x + box.width / 2, box.y + layout.HEAD + 14 + k * layout.LINE, line)
+    for k, line in enumerate(box.notes, len(box.lines)):
+        picture.text(box.x + box.width / 2, box.y + layout.HEAD + 13 + k * layout.LINE, line, 10, fill="#666666")
     if events[box.name].get("label", box.name) != box.name:
         picture.text(box.x + 7, box.y + box.height - 5, box.name, 9, "start", "#888888")
     picture.text(box.x + box.width - 7, box.y + box.height - 5, marks_of(case, box.name), 13, "end", "#1f78b4", "bold")
@@ -177,7 +190,7 @@ def draw_legend(picture, case, y):
 def draw_own(case, has_groups=False):
     """The picture of a case, by a layout of its own."""
     events = {event["name"]: event for event in case.events}
-    tops, pairs = layout.boxes(case.events), [(a, b) for kind, a, b in case.written if kind != "exclude"]
+    tops, pairs = layout.boxes(case.events, lambda name: roles_of(case, name)), [(a, b) for kind, a, b in case.written if kind != "exclude"]
     layout.settle(tops, pairs)
     everything = [it for top in tops for it in top.all()]
     by_name, picture, taken = {it.name: it for it in everything}, Picture(has_groups), []
@@ -205,11 +218,13 @@ def dot_legend(case):
 
 
 def dot_atom(case, event):
-    """An atom as Graphviz text: its sites at its head, its label, its name where that is another text, and its marks."""
+    """An atom as Graphviz text: its sites at its head, its label, its roles, its name where that is another text, and its marks."""
     name, own = event["name"], owners(case, event["name"])
     label = event.get("label", name)
     heads = "".join('<td bgcolor="%s">%s</td>' % (colour_of(case, site), escaped(site)) for site in own)
     rows = '<tr><td colspan="%d">%s %s</td></tr>' % (len(own), escaped(label), marks_of(case, name))
+    if roles_of(case, name):
+        rows += '<tr><td colspan="%d"><font point-size="10" color="#666666">%s</font></td></tr>' % (len(own), escaped(roles_of(case, name)))
     if label != name:
         rows += '<tr><td colspan="%d"><font point-size="9" color="#888888">%s</font></td></tr>' % (len(own), escaped(name))
     border = ' style="dashed"' if name not in case.included else ""
@@ -232,8 +247,9 @@ def dot_of(case):
         if name not in parents:
             lines.append(dot_atom(case, event))
             return
-        label = event.get("label", name)
-        lines.append('subgraph "cluster_%s" { label=%s; labelloc=t; style=rounded; color="#888888";' % (name, quoted(label if label == name else "%s (%s)" % (label, name))))
+        label, roles = event.get("label", name), roles_of(case, name)
+        title = ", ".join(filter(None, (label if label == name else "%s (%s)" % (label, name), roles)))
+        lines.append('subgraph "cluster_%s" { label=%s; labelloc=t; style=rounded; color="#888888";' % (name, quoted(title)))
         if name in whole:
             lines.append('"@%s" [shape=box, style="rounded,dashed", color="#888888", fontcolor="#666666", label=%s];' % (name, quoted("all of " + name)))
         for child in case.events:
@@ -414,6 +430,8 @@ def draw_page(case_text, report, name):
         raise Wrong("%s: it is the report of another case: its lines `graph` and `cover` are not those of the case" % name)
     if len(run.lines) > MOST_CALLS:
         raise Wrong("%s: it has %d calls, and a page takes %d" % (name, len(run.lines), MOST_CALLS))
+    # (a report has no roles)
+    run.case.policy = case.policy
     graph = draw_own(run.case, has_groups=True)
     data = json.dumps(page_data(run), ensure_ascii=False, separators=(",", ":")).replace("<", "\\u003c")
     with open(os.path.join(os.path.dirname(os.path.realpath(__file__)), "page.html"), encoding="utf-8") as file:

@@ -11,14 +11,14 @@
 
 Each place is FILE:LINE:COLUMN, counted from 1, with the text that stands there. Of a file alone it finds out by itself
 why dcr would refuse it, by the plain reader (reader.py). Of one that dcr takes it tells what is legal and hardly meant:
-members that are passed over, events that can never be executed, sessions without calls; and as remarks what is odd only
-where it isn't meant, such as an event of several sites. Of several cases on lines, which it knows by their first line, it
-tells marks too that are passed over, since their event stood on the line before and goes on with those that it has. The
-status is 0 where nothing but remarks is told, 1 where a place is, and 2 where the words are others, the file is missing,
-or it isn't the one that the line tells of.
+members that are passed over, events that can never be executed or that nobody may execute, sessions without calls; and
+as remarks what is odd only where it isn't meant, such as an event of several sites. Of several cases on lines, which it
+knows by their first line, it tells marks too that are passed over, since their event stood on the line before and goes on
+with those that it has. Of a call that is denied it says who lacks which role. The status is 0 where nothing but remarks
+is told, 1 where a place is, and 2 where the words are others, the file is missing, or it isn't the one that the line
+tells of.
 """
 
-import difflib
 import sys
 
 import carried
@@ -27,10 +27,12 @@ import odd
 import reader
 import replay
 import traces
-from case import KINDS, MEMBERS, NAME, File, NotJson, parse, place
+from case import KINDS, NAME, File, NotJson, parse, place
 from command import Usage, Wrong, command, read_bytes
 from explain_log import case_of, tell_log, tell_second_line
+from explain_roles import denied, policy
 from stages import HEADS, is_json, is_several, lines_of
+from told import NAME_RULE, Told, closest, misspelt, near, type_of
 
 # What other tools and papers call a kind of relation.
 OF_THE_FIELD = {
@@ -45,44 +47,13 @@ OF_TYPE = {"name": (str, "a text"), "parent": (str, "a text"), "label": (str, "a
 OF_TYPE.update({it: (bool, "true or false") for it in ("executed", "pending", "included")})
 
 
-class Told:
-    """The place that a line tells of, what is wrong there, the rule and how to mend it, and other places to look at."""
-
-    def __init__(self, value, wrong, rule, mend, *others):
-        self.at, self.end, self.wrong, self.rule, self.mend, self.others = value.at, value.end, wrong, rule, mend, others
-
-
-def closest(word, words):
-    """The word that was probably meant, or None; capitals count for nothing in it."""
-    every = {it.lower(): it for it in words if isinstance(it, str)}
-    found = difflib.get_close_matches(word.lower(), every, 1, 0.6) if isinstance(word, str) else []
-    return every[found[0]] if found else None
-
-
-def near(word, words):
-    """A hint at that word."""
-    found = closest(word, words)
-    return "; did you mean `%s`?" % found if found is not None else ""
-
-
-def misspelt(member, value):
-    """A hint at the member that stands in the place of a missing one."""
-    found = difflib.get_close_matches(member, [key for key, _, _ in value.members], 1, 0.6)
-    return "; is `%s` meant to be it?" % found[0] if found else ""
-
-
-def type_of(value):
-    """What a JSON value is, in words."""
-    kinds = [(bool, "true or false"), (str, "a text"), (float, "a number"), (list, "an array"), (dict, "an object")]
-    return next((said for kind, said in kinds if value.is_a(kind)), "null")
-
-
 def of_top(file, number):
     version = file.top.get("version")
     if not file.top.is_a(dict):
         return Told(file.top, "this is no object", "A case file is one JSON object.", "write { and } around its members")
     wrong = "this is no version" if version.is_a(str) else "this is %s" % type_of(version)
-    return Told(version, wrong, 'The version is the text "1" or "2".', 'write "2" with quotes where there is a cancel, and else "1"')
+    mend = 'write "3" with quotes where there are roles, "2" where there is a cancel and no role, and else "1"'
+    return Told(version, wrong, 'The version is one of the texts "1", "2" and "3".', 'write "%d" with quotes' % version.value if version.value in (1.0, 2.0, 3.0) else mend)
 
 
 def of_graph(file, number):
@@ -126,7 +97,7 @@ def of_relation(file, number):
         return Told(other, "this is no text", rule, "write the name in quotes")
     kind = relation.items[0]
     if kind.value == "cancel":
-        return Told(kind, "cancel is no kind of version 1", 'Cancel needs version "2".', 'write "version":"2" at the head of the file')
+        return Told(kind, "cancel is no kind of version 1", 'Cancel needs version "2" or "3".', 'write "version":"2" at the head of the file')
     rule = "A kind is one of %s, in small letters." % ", ".join(KINDS)
     meant = next((it for it in KINDS if kind.value.lower().rstrip("s") in (it, *OF_THE_FIELD[it])), None)
     if meant == "cancel":
@@ -193,7 +164,7 @@ def name(value, earlier, what):
         wrong = "this is no name"
     else:
         wrong = "this is an earlier %s's name too" % what
-    rule = "A name is an ASCII letter and at most 63 ASCII letters, digits, _, - and . after it; no two %ss have the same." % what
+    rule = "%s; no two %ss have the same." % (NAME_RULE, what)
     others = [(it, "the earlier one") for it in earlier if it.value == value.value][:1]
     return Told(value, wrong, rule, "rename it", *others)
 
@@ -283,7 +254,7 @@ def call_line(file, session, number):
     return Told(value, wrong, "A call is `exec SITE EVENT`, `look SITE`, `enabled SITE` or `accepting`, with one space between the words.", "mend the line")
 
 
-REFUSALS = {it.__name__.replace("_", "-"): it for it in (shape, limit, event_name, parent, mark_on_nest, relation_end, clash, site_name, owned, uncovered, call_line)}
+REFUSALS = {it.__name__.replace("_", "-"): it for it in (shape, limit, event_name, parent, mark_on_nest, relation_end, clash, site_name, owned, uncovered, call_line, policy, denied)}
 EXPECTED = {
     "head": ("The first line is `dcr 1` or `dcr 2`.", "where it looks right, the line ends or the first bytes were changed on the way; a case file is run, not replayed"),
     "graph": ("`graph` and the graph as the program writes it, byte for byte.", "a graph that would be refused as a case, or the right one in another spelling"),
@@ -363,7 +334,8 @@ def tell_passed_over(path, text, file):
     """Tells the members that are passed over, and answers how many there are."""
     found = sorted(file.passed_over(), key=lambda it: it[2])
     for kind, key, at, is_twice in found:
-        what = "an earlier `%s`, of which the last counts" % key if is_twice else "dcr passes over the member `%s`%s" % (key, near(key, MEMBERS[kind]))
+        hint = '; it counts where "version" is "3"' if file.is_of_roles(kind, key) else near(key, file.members(kind))
+        what = "an earlier `%s`, of which the last counts" % key if is_twice else "dcr passes over the member `%s`%s" % (key, hint)
         print("%s:%d:%d: %s" % (path, *place(text, at), what))
     return len(found)
 

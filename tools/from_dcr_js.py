@@ -1,11 +1,14 @@
 #!/usr/bin/env python3
 """Makes a case file of a graph that DCR-JS saved as JSON, as far as its parts exist here.
 
-    tools/from_dcr_js.py GRAPH > case.json            each role becomes a site; events without one stand at the site `all`
-    tools/from_dcr_js.py --site NAME GRAPH > case.json   all events stand at one site
+    tools/from_dcr_js.py GRAPH > case.json                each role becomes a site; events without one stand at the site `all`
+    tools/from_dcr_js.py --site NAME GRAPH > case.json    all events stand at one site
+    tools/from_dcr_js.py --roles GRAPH > case.json        all stand at the site `all`, and each asks for its roles, in version 3
+    tools/from_dcr_js.py --roles --site NAME GRAPH > ..   the same at a site with this name
 
 Each part that is left out and each name that is changed is told on standard error, a line each. Names have plain letters
-here: others are spelled out (`Læge` becomes `Laege`), and the label keeps the text. Add `sessions` to the case yourself.
+here: others are spelled out (`Læge` becomes `Laege`), and the label keeps the text. Add `sessions` to the case yourself,
+and where it has roles `users` with `by`, since a session without a user may execute no event that asks for a role.
 GRAPH may be `-`, for standard input. The status is 0, 1 where dcr would refuse the case that was made, and 2 where the
 words are others or the file is missing or no such graph.
 
@@ -89,6 +92,8 @@ def tell(line):
 
 @command(__doc__)
 def main(words):
+    has_roles = words[:1] == ["--roles"]
+    words = words[1:] if has_roles else words
     site = words[1] if words[:1] == ["--site"] and len(words) == 3 else None
     if len(words) != (3 if site else 1) or words[-1].startswith("--") or site and not NAME.fullmatch(site):
         raise Usage
@@ -96,7 +101,7 @@ def main(words):
         graph = read_graph(json.loads(read_text(words[-1])), tell)
     except (ValueError, KeyError, TypeError, AttributeError, RecursionError) as error:
         raise Wrong("%s: this is no graph as DCR-JS's engine writes it: %s" % (words[-1], error)) from None
-    return put_case(graph, site, tell)
+    return put_case(graph, site or ("all" if has_roles else None), tell, has_roles)
 
 
 if __name__ == "__main__":

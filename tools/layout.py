@@ -10,10 +10,10 @@ STEPS = 48
 class Box:
     """An event, or a nest with what is in it: its place and its size."""
 
-    def __init__(self, name, lines, inside):
-        self.name, self.lines, self.inside, self.parent = name, lines, inside, None
+    def __init__(self, name, lines, notes, inside):
+        self.name, self.lines, self.notes, self.inside, self.parent = name, lines, notes, inside, None
         self.x = self.y = 0.0
-        self.width, self.height = float(WIDTH), float(HEAD + LINE * len(lines) + FOOT)
+        self.width, self.height = float(WIDTH), float(HEAD + LINE * (len(lines) + len(notes)) + FOOT)
         for it in inside:
             it.parent = self
 
@@ -46,14 +46,15 @@ def wrapped(text, width=20):
     return lines[:4]
 
 
-def boxes(events):
-    """The boxes of the events that have no parent, each with those that are in it."""
+def boxes(events, noted):
+    """The boxes of the events that have no parent, each with those that are in it, and what is noted of each, by its name."""
     children = {}
     for event in events:
         children.setdefault(event.get("parent"), []).append(event)
 
     def made(event):
-        return Box(event["name"], wrapped(event.get("label", event["name"])), [made(it) for it in children.get(event["name"], [])])
+        name, note = event["name"], noted(event["name"])
+        return Box(name, wrapped(event.get("label", name)), wrapped(note, 23) if note else [], [made(it) for it in children.get(name, [])])
 
     return [made(it) for it in children.get(None, [])]
 

@@ -17,6 +17,7 @@ import subprocess
 import sys
 
 from command import Usage, Wrong, command
+from roles import VERSION, Policy
 
 TOP = os.path.dirname(os.path.dirname(os.path.abspath(__file__)))
 PROGRAM = [os.path.join(TOP, "crates/dcr/out/dcr"), "run"]
@@ -42,6 +43,7 @@ class Case:
         self.executed = {a for a in self.atoms if marks[a].get("executed", False)}
         self.pending = {a for a in self.atoms if marks[a].get("pending", False)}
         self.included = {a for a in self.atoms if marks[a].get("included", True)}
+        self.policy = Policy(file, self.line_of)
 
     def below(self, node):
         return [atom for atom in self.atoms if node in self.line_of(atom)]
@@ -92,6 +94,11 @@ class Case:
             self.included & (owned | conditions | milestones),
         )
 
+    def denied(self, session, call):
+        """The role for want of which a call of the session is denied; None where it is allowed."""
+        words = call.split(" ")
+        return self.policy.denied(session, words[2]) if words[0] == "exec" else None
+
     def answer(self, call):
         words, owned = call.split(" "), dict(self.sites)
         if words[0] == "look":
@@ -118,7 +125,7 @@ class Case:
                 shown["parent"] = event["parent"]
             events.append(shown)
         cover = [{"events": sorted(owned, key=self.number.get), "site": name} for name, owned in self.sites]
-        yield "dcr " + self.version
+        yield "dcr 1" if self.version == "1" else "dcr 2"
         yield "graph " + compact({"events": events, "relations": self.written})
         yield "cover " + compact(cover)
         yield "open " + self.mark(self.executed, self.pending, self.included)
@@ -149,8 +156,8 @@ def random_case(draw):
         for mark in ("executed", "pending", "included"):
             if event["name"] not in nests and draw.random() < 0.25:
                 event[mark] = draw.random() < 0.5
-    version = draw.choice(["1", "2", None])
-    kinds = KINDS + (["cancel"] if version == "2" else [])
+    version = draw.choice(["1", "2", "3", None])
+    kinds = KINDS + (["cancel"] if version in ("2", "3") else [])
     relations = [[draw.choice(kinds), "e%d" % draw.randrange(count), "e%d" % draw.randrange(count)] for _ in range(draw.randint(0, 10))]
     sites = draw.randint(1, 4)
     cover = [{"site": "s%d" % i, "events": []} for i in range(sites)]
@@ -170,7 +177,27 @@ def random_case(draw):
     file = {"graph": {"events": events, "relations": relations}, "cover": cover, "sessions": sessions}
     if version:
         file["version"] = version
+    if version == VERSION:
+        give_roles(draw, file)
+        leave_out_denied(file)
     return json.dumps(file, ensure_ascii=draw.random() < 0.5)
+
+
+def give_roles(draw, file):
+    """Gives roles to events of a case, and makes users, and says whose each session is."""
+    roles = ["r%d" % k for k in range(draw.randint(1, 4))]
+    for event in file["graph"]["events"]:
+        if draw.random() < 0.4:
+            event["roles"] = [draw.choice(roles) for _ in range(draw.randint(0, 3))]
+    users = [{"user": "u%d" % k, "roles": draw.sample(roles, draw.randint(0, len(roles)))} for k in range(draw.randint(0, 3))]
+    by = [draw.choice(users)["user"] for _ in range(draw.randint(0, 4))] if users else []
+    file.update({member: value for member, value in (("users", users), ("by", by)) if value or draw.random() < 0.5})
+
+
+def leave_out_denied(file):
+    """Takes the calls that are denied out of the sessions of a case."""
+    case = Case(json.dumps(file))
+    file["sessions"] = [[call for call in session if case.denied(k, call) is None] for k, session in enumerate(case.sessions)]
 
 
 def compare(count, seed):

@@ -1,6 +1,10 @@
 """What dcr accepts in a case, and what was hardly meant: each with its place, and how to mend it."""
 
 from model import Case
+from told import near
+
+# How many roles are told that no event asks for.
+MOST_ROLES = 20
 
 
 class Odd:
@@ -107,6 +111,44 @@ def sites_and_sessions(file, case):
             yield Odd(session, "session %d has no calls" % number, "write its calls, or take it out")
 
 
+def roles_of(file):
+    """The roles that each event has for its own, and where each role stands first among those of users."""
+    had = {}
+    for it in (role for user in file.users for role in file.roles(user)):
+        had.setdefault(it.value, it)
+    return {name: [it.value for it in file.roles(event)] for event, name in zip(file.events, file.names)}, had
+
+
+def executed_by_nobody(file):
+    own, had = roles_of(file)
+    lacking = {name for name, roles in own.items() if had.keys().isdisjoint(roles)}
+    found = []
+    for atom in file.atoms:
+        way = file.ways_up(atom)
+        role = next((own[it][0] for it in way if own[it]), None)
+        if role is not None and lacking.issuperset(way):
+            found.append((event_of(file, atom), atom, role))
+    if found and not file.users:
+        more = " and %d more" % (len(found) - 1) if found[1:] else ""
+        yield Odd(found[0][0], "nobody may execute `%s`%s: roles are asked for, and there are no users" % (found[0][1], more), "write `users`, and in `by` whose each session is")
+        return
+    for event, atom, role in found:
+        why = "no user has a role that it asks for, such as `%s`%s" % (role, near(role, [*had]))
+        yield Odd(event, "nobody may execute `%s`: %s" % (atom, why), "write the role among those of a user, or mend its name")
+
+
+def users_and_sessions(file):
+    own, had = roles_of(file)
+    asked, by = {it for roles in own.values() for it in roles}, {it.value for it in file.by}
+    for role in [it for it in had if it not in asked][:MOST_ROLES]:
+        yield Odd(had[role], "no event asks for the role `%s`%s" % (role, near(role, [*asked])), "mend its name, or take it out", is_remark=True)
+    for user, name in zip(file.users, file.user_names):
+        if name not in by:
+            yield Odd(user, "no session is by `%s`" % name, "write the name in `by`, at the place of a session", is_remark=True)
+    for number, session in enumerate(file.sessions[len(file.by) :] if by else [], len(file.by)):
+        yield Odd(session, "session %d has no user, since `by` names %d" % (number, len(file.by)), "write its user in `by`", is_remark=True)
+
+
 def line_ends(text, top):
     if "\r" in text:
         kind = "CR LF" if "\r\n" in text else "CR"
@@ -117,5 +159,5 @@ def oddities(file, text, case=None):
     """What is odd in an accepted case, in the order of the file; of one that opens otherwise than its file says as it opens."""
     case = case or Case(text)
     reach = Reach(case)
-    found = [*never_executed(file, reach), *waits_for_itself(file, reach), *sites_and_sessions(file, case), *line_ends(text, file.top)]
+    found = [*never_executed(file, reach), *waits_for_itself(file, reach), *sites_and_sessions(file, case), *executed_by_nobody(file), *users_and_sessions(file), *line_ends(text, file.top)]
     return sorted(found, key=lambda it: it.at)

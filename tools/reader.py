@@ -187,8 +187,8 @@ def is_site(site):
 
 
 def try_shape(file):
-    refuse(not isinstance(file, dict) or file.get("version", "1") not in ("1", "2"), 3, "shape top 0")
-    kinds = [*KINDS, "cancel"] if file.get("version") == "2" else KINDS
+    refuse(not isinstance(file, dict) or file.get("version", "1") not in ("1", "2", "3"), 3, "shape top 0")
+    kinds = KINDS if file.get("version", "1") == "1" else [*KINDS, "cancel"]
     graph = file.get("graph")
     refuse(not isinstance(graph, dict), 3, "shape graph 0")
     refuse(not isinstance(graph.get("events"), list), 3, "shape graph 0")
@@ -207,13 +207,14 @@ def try_shape(file):
 
 def named(file):
     """The file with the members that count alone, those that may be missing too."""
-    counting, events = ("name", "parent", "label", *MARKS), file["graph"]["events"]
+    counting, events = ("name", "parent", "label", "roles", *MARKS), file["graph"]["events"]
     events = [{name: event[name] for name in counting if name in event} for event in events]
     return {
         "version": file.get("version", "1"),
         "graph": {"events": events, "relations": file["graph"].get("relations", [])},
         "cover": [{"site": site["site"], "events": site["events"]} for site in file["cover"]],
         "sessions": file.get("sessions", []),
+        **{member: file[member] for member in ("users", "by") if member in file},
     }
 
 
@@ -270,6 +271,15 @@ def is_call(case, text):
     return is_at and (len(words) < 3 or words[2] in case.number)
 
 
+def try_policy(case):
+    wrong = case.policy.wrong()
+    refuse(wrong is not None, 16, "policy", *(wrong or ()))
+    for k, session in enumerate(case.sessions):
+        for j, call in enumerate(session):
+            role = case.denied(k, call)
+            refuse(role is not None, 17, "denied", k, j, role)
+
+
 def read_case(data, kind=Case):
     """The case that the bytes spell, as a model of this kind."""
     refuse(len(data) > MOST_BYTES, 1, "too-long")
@@ -289,6 +299,7 @@ def read_case(data, kind=Case):
     for k, session in enumerate(file["sessions"]):
         for j, call in enumerate(session):
             refuse(not is_call(case, call), 12, "call-line", k, j)
+    try_policy(case)
     return case
 
 

@@ -42,6 +42,16 @@ def by(old, new):
     return GOOD.replace(old, new)
 
 
+def with_roles(old="", new=""):
+    """The good file in version 3 with roles and users, and with one part in the place of another, which stands in it once."""
+    text = by('"version": "2"', '"version": "3"').replace('{"name": "Work"}', '{"name": "Work", "roles": ["packer", "boss"]}')
+    text = text.replace('"label": "Order the goods"', '"label": "Order the goods", "roles": ["customer"]')
+    text = text.replace(' "sessions": [', ' "users": [\n  {"user": "kim", "roles": ["customer"]},\n  {"user": "lou", "roles": ["packer"]}],\n "by": ["kim", "lou"],\n "sessions": [')
+    text = text.replace('["exec buyer order", "exec shop pack"],\n  ["accepting"]', '["exec buyer order"],\n  ["exec shop pack", "accepting"]')
+    want(not old or text.count(old) == 1, "%s stands in the good file with roles %d times" % (old, text.count(old)))
+    return text.replace(old, new)
+
+
 # Each: what was done, the file, what `dcr run` answers (nothing where it takes the file), the text at the place that is
 # told, and words that must be told.
 BREAKAGES = [
@@ -62,7 +72,7 @@ BREAKAGES = [
     ("a text for true or false", by("false", '"false"'), "refused 3 shape event 2", '"false"', ["`pending` is a text", "without quotes"]),
     ("a wrong case of a kind", by('["milestone"', '["Milestone"'), "refused 3 shape relation 2", '"Milestone"', ["did you mean `milestone`?", "small letters"]),
     ("noresponse", by('"cancel"', '"noresponse"'), "refused 3 shape relation 3", '"noresponse"', ["is `cancel` here", 'write "cancel"']),
-    ("cancel in version 1", by('{"version": "2",', "{"), "refused 3 shape relation 3", '"cancel"', ['"version":"2"']),
+    ("cancel in version 1", by('{"version": "2",', "{"), "refused 3 shape relation 3", '"cancel"', ['"version":"2"', 'needs version "2" or "3"']),
     ("a name twice", by('{"name": "pay"}', '{"name": "pack"}'), "refused 5 event-name 4", '"pack"}', ["earlier event's name", "rename it"]),
     ("a site without events", by('"shop", "events": ["Work"]', '"shop"'), "refused 3 shape site 0", '{"site": "shop"}', ["no `events`", '"events": []']),
     ("a site that owns none", by('["order", "pay"]}]', '["order", "pay"]}, {"site": "bank", "events": []}]'), "", '{"site": "bank"', ["remark", "owns no event"]),
@@ -78,8 +88,38 @@ BREAKAGES = [
     ("a milestone on itself", by('["milestone", "pay", "send"]', '["milestone", "pay", "pay"]'), "", '{"name": "pay"}', ["while it is pending", "milestone of itself"]),
     ("an event that nothing includes", by('{"name": "pay"}', '{"name": "pay", "included": false}'), "", '{"name": "pay"', ["can never be executed", "no event includes it"]),
     ("a session without calls", by('["accepting"]', "[]"), "", "[]]", ["session 1 has no calls"]),
-    ("an unknown version", by('"version": "2"', '"version": "3"'), "refused 3 shape top 0", '"3"', ["this is no version", 'write "2"']),
+    ("an unknown version", by('"version": "2"', '"version": "4"'), "refused 3 shape top 0", '"4"', ["this is no version", '"3" with quotes where there are roles', '"2" where']),
     ("a version that is a number", by('"version": "2"', '"version": 2'), "refused 3 shape top 0", "2,", ["this is a number", 'write "2" with quotes']),
+    ("another version that is a number", with_roles('"version": "3"', '"version": 3'), "refused 3 shape top 0", "3,", ["this is a number", 'write "3" with quotes']),
+    ("a version that is a large number", by('"version": "2"', '"version": 4e300'), "refused 3 shape top 0", "4e300,", ["this is a number", '"3" with quotes where']),
+    ("roles of an event in version 2", by('{"name": "pay"}', '{"name": "pay", "roles": ["buyer"]}'), "", '"roles"', ["passes over", 'it counts where "version" is "3"']),
+    ("users in version 1", with_roles('"version": "3"', '"version": "1"').replace('["cancel", "send", "pay"]', '["response", "send", "pay"]'), "", '"users"', ["passes over the member `users`", "the member `by`", "the member `roles`"]),
+    ("a misspelt member of an event in version 3", with_roles('"roles": ["packer", "boss"]', '"role": ["packer", "boss"]'), "", '"role"', ["passes over", "did you mean `roles`?"]),
+    ("a role as a text", with_roles('"roles": ["packer", "boss"]', '"roles": "packer"'), "refused 16 policy event 1", '"packer"', ["`roles` is a text here", "write [ and ] around the roles"]),
+    ("roles that are null", with_roles('"roles": ["packer", "boss"]', '"roles": null'), "refused 16 policy event 1", "null", ["`roles` is null here", "take it out"]),
+    ("a role with a space", with_roles('"boss"', '"the boss"'), "refused 16 policy event 1", '"the boss"', ["this is no name", "rename the role"]),
+    ("a role as a number", with_roles('"boss"', "7"), "refused 16 policy event 1", "7]", ["this is a number", "in quotes"]),
+    ("users as an object", with_roles('"users": [\n  {"user": "kim", "roles": ["customer"]},\n  {"user": "lou", "roles": ["packer"]}]', '"users": {"kim": ["customer"]}'), "refused 16 policy users 0", '{"kim"', ["`users` is an object here", '[{"user": .., "roles": [..]}, ..]']),
+    ("a user as a text", with_roles('{"user": "kim", "roles": ["customer"]}', '"kim"'), "refused 16 policy user 0", '"kim"', ["this is a text", '{"user": .., "roles": [..]}']),
+    ("a user with a name", with_roles('{"user": "lou"', '{"name": "lou"'), "refused 16 policy user 1", '{"name": "lou"', ["no `user`; is `name` meant to be it?"]),
+    ("a user without roles", with_roles('{"user": "lou", "roles": ["packer"]}', '{"user": "lou", "role": ["packer"]}'), "refused 16 policy user 1", '{"user": "lou"', ["no `roles`; is `role` meant to be it?", '"roles": []']),
+    ("a user's name with a space", with_roles('{"user": "lou"', '{"user": "Lou L."'), "refused 16 policy user 1", '"Lou L."', ["this is no name", "rename the user"]),
+    ("a user's name as a number", with_roles('{"user": "lou"', '{"user": 2'), "refused 16 policy user 1", "2,", ["`user` is a number here", "in quotes"]),
+    ("a user twice", with_roles('{"user": "lou"', '{"user": "kim"'), "refused 16 policy user 1", '"kim", "roles": ["packer"]', ["an earlier user's name", "the earlier one"]),
+    ("a user's roles as a text", with_roles('"lou", "roles": ["packer"]', '"lou", "roles": "packer"'), "refused 16 policy user 1", '"packer"', ["`roles` is a text here"]),
+    ("one user of all sessions as a text", with_roles('["kim", "lou"]', '"kim"'), "refused 16 policy by 0", '"kim"', ["`by` is a text here", "write [ and ] around the names"]),
+    ("an unknown user of a session", with_roles('["kim", "lou"]', '["kim", "luo"]'), "refused 16 policy by 1", '"luo"', ["no user has this name; did you mean `lou`?", "mend the name"]),
+    ("a user of a session as an object", with_roles('["kim", "lou"]', '["kim", {"user": "lou"}]'), "refused 16 policy by 1", '{"user": "lou"}', ["this is an object", "in quotes"]),
+    ("users of sessions without users", with_roles('"users": [\n  {"user": "kim", "roles": ["customer"]},\n  {"user": "lou", "roles": ["packer"]}],\n', ""), "refused 16 policy by 0", '"kim"', ["no user has this name", "write the users"]),
+    ("users of sessions exchanged", with_roles('["kim", "lou"]', '["lou", "kim"]'), "refused 17 denied 0 0 customer", '"exec buyer order"', ["`lou`, whose session 0 is, lacks a role: `order` asks for `customer`", "make the call in a session of `kim`", 'write "customer" among the roles of `lou`']),
+    ("a nest's role that its user lacks", with_roles('"lou", "roles": ["packer"]', '"lou", "roles": []'), "refused 17 denied 1 0 packer", '"exec shop pack"', ["`pack` asks for one of `packer`, `boss`", "`pack` is in `Work`, which asks for it here", 'write "packer" among the roles of `lou`']),
+    ("a session past the users", with_roles('["kim", "lou"]', '["kim"]'), "refused 17 denied 1 0 packer", '"exec shop pack"', ["session 1 has no user", "`by` names the users of 1 session", "at place 1 of `by`"]),
+    ("no user of any session", with_roles(',\n "by": ["kim", "lou"]', ""), "refused 17 denied 0 0 customer", '"exec buyer order"', ["session 0 has no user", "at place 0 of `by`"]),
+    ("a role that no user has", with_roles('{"name": "pay"}', '{"name": "pay", "roles": ["custmer"]}'), "", '{"name": "pay"', ["nobody may execute `pay`", "no user has a role", "did you mean `customer`?"]),
+    ("roles without users", with_roles('"users": [\n  {"user": "kim", "roles": ["customer"]},\n  {"user": "lou", "roles": ["packer"]}],\n "by": ["kim", "lou"],\n', "").replace('["exec buyer order"],\n  ["exec shop pack", "accepting"]', '["accepting"]'), "", '{"name": "order"', ["nobody may execute `order` and 2 more", "there are no users"]),
+    ("a role that no event asks for", with_roles('"lou", "roles": ["packer"]', '"lou", "roles": ["packer", "customr"]'), "", '"customr"', ["remark", "no event asks for the role `customr`; did you mean `customer`?"]),
+    ("a user without a session", with_roles('{"user": "lou", "roles": ["packer"]}', '{"user": "lou", "roles": ["packer"]},\n  {"user": "max", "roles": []}'), "", '{"user": "max"', ["remark", "no session is by `max`"]),
+    ("a session without a user", with_roles('["exec shop pack", "accepting"]', '["exec shop pack", "accepting"], ["look shop"]'), "", '["look shop"]', ["remark", "session 2 has no user, since `by` names 2"]),
     ("a byte order mark", "\ufeff" + GOOD, "refused 2 not-json", "\ufeff", ["a byte order mark", "without it"]),
     ("line ends of other systems", GOOD.replace("\n", "\r\n"), "", "{", ["remark", "CR LF", "not in a report"]),
     ("line ends of old systems", GOOD.replace("\n", "\r"), "", "{", ["remark", "the line ends are CR,"]),
@@ -129,9 +169,23 @@ def check_explain_tells_each_natural_breakage():
 def check_explain_tells_nothing_of_the_good_file():
     with tempfile.TemporaryDirectory() as folder:
         path = os.path.join(folder, "good.json")
-        with open(path, "w") as file:
-            file.write(GOOD)
-        want(tool("explain.py", path) == (0, path + ": dcr takes it, and passes over no member\n", ""), str(tool("explain.py", path)))
+        for text in (GOOD, with_roles()):
+            with open(path, "w") as file:
+                file.write(text)
+            want(tool("explain.py", path) == (0, path + ": dcr takes it, and passes over no member\n", ""), str(tool("explain.py", path)))
+
+
+def check_explain_tells_where_a_policy_is_another_files():
+    lines = ["16 policy event 0", "16 policy event 9", "16 policy users 0", "16 policy user 0", "16 policy user 9", "16 policy by 0", "16 policy by 9", "16 policy bye 0", "16 policy", "16 policy by x"]
+    lines += ["17 denied 0 0 customer", "17 denied 1 0 packer", "17 denied 0 0 boss", "17 denied 1 1 packer", "17 denied 9 0 packer", "17 denied 0 9 packer", "17 denied 0 0", "17 denied", "17 denied x y z"]
+    with tempfile.TemporaryDirectory() as folder:
+        for number, text in enumerate((with_roles(), GOOD)):
+            path = os.path.join(folder, "%d.json" % number)
+            with open(path, "w") as file:
+                file.write(text)
+            for line in lines:
+                status, wrote, said = tool("explain.py", path, "refused", *line.split())
+                want(status == 2 and not wrote and "is it the file that dcr was given?" in said, "%s of file %d: %d %s%s" % (line, number, status, wrote, said))
 
 
 def check_explain_says_what_the_graph_would_have_answered():

@@ -214,13 +214,20 @@ def check_the_blocks_for_the_path_leave_the_checkout_alone():
 def check_jq_finds_each_refusal():
     if not shutil.which("jq"):
         raise NotTried("jq is not on the path")
-    rows = [re.split(r"(?<!\\) \| ", line.strip("| ")) for line in read("docs/FORMATS.md").decode().splitlines() if line.startswith("| ")]
-    paths = {row[0].strip("`"): row[2 if row[0].startswith("`refused") else 3] for row in rows if len(row) == 4}
+    # (the part of a shape, of a limit and of a policy stands behind the word, since two of them have an `event`)
+    paths, of = {}, ""
+    for line in read("docs/FORMATS.md").decode().splitlines():
+        begun = re.match(r"The (?:parts|kinds) of `(\w+)`", line)
+        of = begun[1] + " " if begun else of
+        row = re.split(r"(?<!\\) \| ", line.strip("| ")) if line.startswith("| ") else []
+        if len(row) == 4:
+            is_line = row[0].startswith("`refused")
+            paths.setdefault(row[0].strip("`") if is_line else of + row[0].strip("`"), row[2 if is_line else 3])
     for name, line in re.findall(r"^\| `([^`]*\.json)` \| `([^`]*)` \|$", read("examples/refused/README.md").decode(), re.M):
         words = line.split()
         if words[2] == "not-json":
             continue
-        key = words[3] if words[2] in ("shape", "limit") else next(it for it in paths if it.startswith(" ".join(words[:3]) + " "))
+        key = " ".join(words[2:4]) if words[2] in ("shape", "limit", "policy") else next(it for it in paths if it.startswith(" ".join(words[:3]) + " "))
         names = key.split()[3:] if key.startswith("refused") else ["", "I"]
         path = paths[key].strip("`").replace("\\|", "|")
         numbers = words[3:] if key.startswith("refused") else ["", words[4]]

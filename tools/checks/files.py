@@ -19,7 +19,7 @@ from checks.program import prepare  # noqa: F401
 
 sys.path[:0] = [os.path.join(TOP, "tools"), os.path.join(TOP, "bench")]
 import apart  # noqa: E402
-from model import Case, random_case  # noqa: E402
+from model import Case, give_roles, random_case  # noqa: E402
 from replay import check as replayed  # noqa: E402
 
 PROGRAM = os.path.join(TOP, "crates/dcr/out/dcr")
@@ -39,6 +39,11 @@ PLACES = {
     "10-site-name.json": '"x"',
     "11-uncovered.json": '{"name":"b"}',
     "12-call-line.json": '"exec x c"',
+    "16-policy-event.json": '"doctor"',
+    "16-policy-users.json": '{"ann":["doctor"]}',
+    "16-policy-user.json": '"ann"',
+    "16-policy-by.json": '"eve"',
+    "17-denied.json": '"exec x sign"',
 }
 
 
@@ -120,9 +125,10 @@ def check_explain_lists_what_is_passed_over():
 def spoilt(draw):
     """A random case with one thing changed that the program may refuse."""
     case = json.loads(random_case(draw))
-    graph, calls = case["graph"], [(session, k) for session in case["sessions"] for k in range(len(session))]
+    graph, calls, users = case["graph"], [(session, k) for session in case["sessions"] for k in range(len(session))], case.get("users", [])
     lists = [it for it in (graph["events"], graph["relations"], case["cover"], case["sessions"], *graph["relations"], *case["sessions"], *[site["events"] for site in case["cover"]]) if it]
-    objects = [case, graph, *graph["events"], *case["cover"]]
+    lists += [it for it in (users, case.get("by"), *[of.get("roles") for of in [*graph["events"], *users]]) if it]
+    objects = [case, graph, *graph["events"], *case["cover"], *users]
     way, others = draw.randrange(5), [None, 3, "zz", "", [], {}, True, ["exec s0 e0"], "a b", "e0"]
     if way == 0:
         it = draw.choice(objects)
@@ -135,7 +141,7 @@ def spoilt(draw):
         del it[draw.choice(sorted(it))]
     elif way == 3 and calls:
         session, k = draw.choice(calls)
-        session[k] = draw.choice(["exec s0 zz", "exec zz e0", "look", "look s0 ", "Exec s0 e0", "accepting now", "exec  s0 e0"])
+        session[k] = draw.choice(["exec s0 zz", "exec zz e0", "look", "look s0 ", "Exec s0 e0", "accepting now", "exec  s0 e0", "exec s0 e0"])
     else:
         draw.choice(graph["events"])["parent"] = "e%d" % draw.randrange(9)
     text = json.dumps(case, indent=draw.choice([None, 1]))
@@ -145,7 +151,7 @@ def spoilt(draw):
 def check_explain_knows_each_line_of_the_program():
     draw, kinds = random.Random(1), set()
     with tempfile.NamedTemporaryFile("w", suffix=".json") as file:
-        for _ in range(120):
+        for _ in range(160):
             text = spoilt(draw)
             line = subprocess.run([PROGRAM, "run"], input=text.encode(), stdout=subprocess.PIPE).stdout.decode()
             if not line.startswith("refused"):
@@ -157,7 +163,7 @@ def check_explain_knows_each_line_of_the_program():
             file.flush()
             status, wrote, said = tool("explain.py", file.name, *line.split())
             want(status == 1 and wrote.startswith(file.name + ":"), "%s%s%s%s" % (line, text, wrote, said))
-    want(len(kinds) >= 8, "only the refusals %s came" % sorted(kinds))
+    want(len(kinds) >= 9 and {"policy", "denied"} <= kinds, "only the refusals %s came" % sorted(kinds))
 
 
 def check_explain_knows_the_lines_of_a_tape():
@@ -181,12 +187,14 @@ def check_draw_draws_each_example():
         case, path = json.loads(read("examples/%s.json" % name)), os.path.join(EXAMPLES, name)
         events = [event.get("label", event["name"]).split()[0] for event in case["graph"]["events"]]
         words = [*events, *[site["site"] for site in case["cover"]], *[kind for kind, _, _ in case["graph"]["relations"]]]
+        words += ["by " + " or ".join(event["roles"]) for event in case["graph"]["events"] if "roles" in event]
         want_picture(name, tool("draw.py", "own", path + ".json")[1], words)
         status, wrote, _ = tool("draw.py", "dot", path + ".json")
         want(status == 0 and wrote.count("{") == wrote.count("}") and wrote.count(" -> ") == len(case["graph"]["relations"]), name)
         # (the name beside each label, and the legend)
         want(all(">%s<" % event["name"] in wrote for event in case["graph"]["events"] if '"%s" [' % event["name"] in wrote and "label" in event), "%s: a name is missing beside a label" % name)
         want(all(" %s</font>" % kind in wrote for kind, _, _ in case["graph"]["relations"]) and "excluded at opening" in wrote, "%s: the legend" % name)
+        want(all(it in wrote for it in words if it.startswith("by ")), "%s: the roles" % name)
         verdict = read("examples/%s.report" % name).decode().split("\nverdict ")[1].split("\n")[0]
         want_picture(name, tool("draw.py", "run", path + ".report")[1], [*[site["site"] for site in case["cover"]], "verdict " + verdict])
 
@@ -205,6 +213,23 @@ def check_graphviz_draws_a_nest_that_is_related_to_itself():
             drawn = subprocess.run(["dot", "-Tsvg"], input=wrote.encode(), stdout=subprocess.PIPE, stderr=subprocess.PIPE)
             want(drawn.returncode == 0 and not drawn.stderr, "Graphviz says %s" % drawn.stderr)
             want_picture("a nest", tool("draw.py", "case", file.name)[1], ["all of N", "excluded at opening"])
+
+
+def check_roles_are_drawn_as_far_as_there_is_room():
+    roles = ["role-with-a-long-name-%d" % k for k in range(40)]
+    case = {"version": "3", "graph": {"events": [{"name": "N", "roles": ["boss"]}, {"name": "a", "parent": "N", "roles": roles}, {"name": "b", "roles": ["nurse", "nurse"]}, {"name": "c", "roles": []}]}, "cover": [{"site": "s", "events": ["N", "b", "c"]}]}
+    told = {}
+    with tempfile.NamedTemporaryFile("w", suffix=".json") as file:
+        for version in ("3", "2"):
+            file.seek(0)
+            file.truncate()
+            json.dump({**case, "version": version}, file)
+            file.flush()
+            told[version] = [tool("draw.py", way, file.name) for way in ("own", "dot")]
+    for status, wrote, said in told["3"]:
+        want(status == 0 and wrote.count("by ") == wrote.count("by boss") + wrote.count("by nurse") + wrote.count("by role-with") == 3, "%d %s%s" % (status, wrote, said))
+        want("N, by boss" in wrote and "by nurse<" in wrote and "…" in wrote and "name-9" not in wrote, wrote)
+    want(all(status == 0 and "by " not in wrote for status, wrote, _ in told["2"]), "roles of version 2 are drawn")
 
 
 def check_the_run_tells_all_of_a_long_change():
@@ -255,6 +280,32 @@ def check_sites_apart_over_random_networks():
         text, number = random_case(draw).encode(), draw.choice([draw.randrange(20), draw.randrange(1 << 32)])
         status, report, _ = run([PROGRAM, "nodes", str(number)], given=text)
         want(report.startswith(b"refused 9 clash ") or (status, report) == apart.answer(text, number), "nodes %d of %s: %s" % (number, text, report))
+
+
+def denied_by_definition(file, session, atom):
+    """The role for want of which a session may not execute an atom, written out: all that it asks for, each once, and all
+    that the session has."""
+    events, asked = {event["name"]: event for event in file["graph"]["events"]}, []
+    while atom is not None:
+        asked += [role for role in events[atom].get("roles", []) if role not in asked]
+        atom = events[atom].get("parent")
+    names = file.get("by", [])[session : session + 1]
+    had = [role for user in file.get("users", []) if user["user"] in names for role in user["roles"]]
+    return asked[0] if asked and not {*asked} & {*had} else None
+
+
+def check_policies_by_the_definition():
+    draw, counts = random.Random(9), [0, 0]
+    for _ in range(200):
+        file = {**json.loads(random_case(draw)), "version": "3"}
+        give_roles(draw, file)
+        case, other = (Case(json.dumps({**file, "version": version})) for version in ("3", "2"))
+        for session, atom in [(session, atom) for session in range(6) for atom in case.atoms]:
+            wanted = denied_by_definition(file, session, atom)
+            want(case.denied(session, "exec s9 " + atom) == wanted, "session %d and %s: %s" % (session, atom, json.dumps(file)))
+            want(other.denied(session, "exec s9 " + atom) is case.denied(session, "look s0") is None, "something else is denied: %s" % json.dumps(file))
+            counts[wanted is not None] += 1
+    want(min(counts) > 500, "allowed and denied were %s" % counts)
 
 
 def check_the_examples_by_the_models():

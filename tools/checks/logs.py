@@ -300,6 +300,25 @@ def check_explain_finds_the_bad_record():
             want(told[0] == 2 and not told[1], "%s, by another line: %s" % (log, told))
 
 
+def check_the_policy_of_the_case_is_tried_before_the_log():
+    third = CASE.replace(b'{"graph"', b'{"version":"3","graph"').replace(b'"pm"', b'"pm","roles":["doctor"]', 1)
+    rows = [(b"", b'"by":1', b"refused 16 policy by 0"), (b"", b'"sessions":[["look x","exec x pm"]]', b"refused 17 denied 0 1 doctor")]
+    with tempfile.TemporaryDirectory() as folder:
+        path = os.path.join(folder, "log")
+        for _, member, line in rows:
+            given = third[:-1] + b"," + member + b"}\nCase;event\n"
+            want(traces.answer(given) == (3, line + b"\n"), "%s by the second implementation: %s" % (line, traces.answer(given)))
+            told = run([PROGRAM, "conform"], given)
+            want(told == (3, line + b"\n", b""), "%s: %s" % (line, told))
+            with open(path, "wb") as file:
+                file.write(given)
+            status, wrote, _ = tool("explain.py", path, *line.decode().split())
+            want(status == 1 and wrote.startswith(path + ":1:") and "mend:" in wrote, wrote)
+    # (and of whoever did what in a log it is not asked which role he had)
+    given, lines = third + b"\ncase,event\nc1,pm\n", b"c1 accepting 1\ntraces 1\n"
+    want(traces.answer(given) == (0, lines) and run([PROGRAM, "conform"], given) == (0, lines, b""), "a log of a case with roles")
+
+
 def check_explain_finds_the_case_before_a_log():
     log = b"\ncase,event\nc1,pm\n"
     rows = [(CASE + log, (), 0, ": dcr takes it with a log of 1 traces, and passes over no member\n")]

@@ -79,6 +79,29 @@ def check_a_graph_of_dcr_js():
     want([it["site"] for it in one["cover"]] == ["here"] and len(one["cover"][0]["events"]) == 5, str(one["cover"]))
 
 
+def check_the_roles_of_dcr_js_beside_one_site():
+    given = {**JS, "roleMap": {"Event_1": "the customer", "Event_2": ["insurer", "Læge", "insurer"], "Nest_1": "boss", "Event_4": ""}}
+    with_sites, told = made("from_dcr_js.py", json.dumps(given), "--site", "here")
+    case, said = made("from_dcr_js.py", json.dumps(given), "--roles", "--site", "here")
+    roles = {event["name"]: event.pop("roles") for event in case["graph"]["events"] if "roles" in event}
+    want(roles == {"Event_1": ["the-customer"], "Event_2": ["insurer", "Laege"]}, str(roles))
+    want(case == {"version": "3", **with_sites}, "more than roles is other: %s" % case)
+    more = [it for it in said if it not in told]
+    want_told(more, "left out: the roles of the nest Nest_1 (boss), which would be those of all events below it", "renamed: the role `the customer` is `the-customer`", "renamed: the role `Læge` is `Laege`")
+    want([it for it in told if it not in said] == [], "some of what is told without roles isn't told")
+    want([it["site"] for it in made("from_dcr_js.py", json.dumps(given), "--roles")[0]["cover"]] == ["all"], "another site")
+    # (two roles stay two, whatever letters they have)
+    graph = {"events": ["a", "b"], "roleMap": {"a": "Læge", "b": "Laege"}, "marking": {"included": ["a", "b"]}}
+    case, said = made("from_dcr_js.py", json.dumps(graph), "--roles")
+    want([it["roles"] for it in case["graph"]["events"]] == [["Laege"], ["Laege-2"]] and len(said) == 2, str((case, said)))
+
+
+def check_roles_by_other_words_are_usage():
+    for words in (["--roles"], ["--roles", "--site", "here"], ["--site", "here", "--roles", "-"], ["--roles", "--roles", "-"], ["--roles", "--site", "1here", "-"], ["-", "--roles"]):
+        status, wrote, said = tool("from_dcr_js.py", *words, given=json.dumps(JS).encode())
+        want(status == 2 and not wrote and "tools/from_dcr_js.py" in said, "%s: %d %s%s" % (words, status, wrote, said))
+
+
 def check_names_are_spelled_out_and_never_the_same():
     roles = ["Læge", "Laege", "læge", "Lége", "Sygeplejerske på afd. 3", "看護師", "医師", "L-ge", "all", "x" * 90, "x" * 89 + "y"]
     graph = {"events": ["e%d" % k for k in range(len(roles) + 1)], "roleMap": {"e%d" % k: role for k, role in enumerate(roles)}, "labelMap": {"e0": "Ordinér medicin"}}

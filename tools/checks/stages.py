@@ -221,6 +221,7 @@ def explained(*words, given=""):
 
 ONE = '{"graph":{"events":[{"name":"a"}]},"cover":[{"site":"x","events":["a"]}]}'
 TWO = '{"graph":{"events":[{"name":"a","pending":true},{"name":"b"}]},"cover":[{"site":"x","events":["a","b"]}]}'
+ROLES = TWO.replace('{"graph"', '{"version":"3","graph"').replace('{"name":"b"}', '{"name":"b","roles":["r"]}')[:-1] + ',"users":[{"user":"u","roles":[]},{"user":"v","roles":["r"]}],"by":["u"],"sessions":[["look x","exec x b"]]}'
 # Each: the cases, what dcr answers, the place that is told, and words that are.
 BROKEN = [
     ([TWO, ONE], "case 1 refused 13 dropped b", "2:20", ["no event has the name `b` here", "1:49: it stands here on the line before", 'write {"name":"b"}', "leaves none out"]),
@@ -234,6 +235,13 @@ BROKEN = [
     ([ONE, "", ONE], "case 1 refused 2 not-json", "2", ["the line is empty", "take the line out"]),
     ([ONE.replace(',"cover"', ',\n"cover"')], "case 0 refused 2 not-json", "1", ["one case over 2 lines", "tools/stages.py"]),
     ([ONE] * 17, "refused 14 cases 17", "", ["17 lines", "each on a line of its own", "leave one out without calls"]),
+    ([TWO, ROLES], "case 1 refused 17 denied 0 1 r", "2:228", ["`u`, whose session 0 is, lacks a role: `b` asks for `r`", "2:84: `b` asks for it here", "2:163: these are the roles of `u`", "make the call in a session of `v`"]),
+    ([TWO, ROLES.replace('"by":["u"]', '"by":["v","w"]')], "case 1 refused 16 policy by 1", "2:205", ["no user has this name"]),
+    ([TWO, ROLES.replace('["r"]}]', '"r"}]', 1), ONE], "case 1 refused 16 policy event 1", "2:83", ["`roles` is a text here"]),
+    # (a policy that is refused is told before an event that is left out, and behind another refusal of its line)
+    ([TWO.replace("}]}", '},{"name":"c"}]}', 1).replace('"b"]', '"b","c"]'), ROLES.replace('"users":[', '"users":[1,')], "case 1 refused 16 policy user 0", "2:143", ["this is a number"]),
+    ([TWO, ROLES.replace('"look x"', '"look y"').replace('"by":["u"]', '"by":1')], "case 1 refused 12 call-line 0 0", "2:215", ["no site has the name `y`"]),
+    ([ROLES, TWO, "{"], "case 0 refused 17 denied 0 1 r", "1:228", ["lacks a role"]),
     ([*[ONE, ""] * 9], "refused 14 cases 18", "", ["empty are the lines 2, 4, 6", "An empty line counts too"]),
     ([ONE.replace(",", "\n,").replace(":", "\n:\n").replace("}]", "\n}]")], "refused 14 cases 17", "", ["one case over 17 lines", "tools/stages.py"]),
     ([], "refused 14 cases 0", "", ["the file is empty", "tools/stages.py"]),
@@ -260,7 +268,7 @@ def check_explain_knows_each_line_of_adapt():
     draw, kinds = random.Random(5), set()
     with tempfile.TemporaryDirectory() as folder:
         path = os.path.join(folder, "cases")
-        while len(kinds) < 6:
+        while len(kinds) < 8 or not {"case refused 16", "case refused 17"} <= kinds:
             given = carried.random_stages(draw)
             line = carried.answer(given)[1].decode()
             if line.startswith("dcr"):
