@@ -5,7 +5,8 @@ ghost use Rattle.dcr_conform.specs.Judge.{IsJudged, AreJudged, FitsJudged};
 ghost use Rattle.dcr_log.specs.declared.trace.Trace.{Trace};
 
 use crate::Judged;
-use dcr_graph::{Graph, Marking, NameIndex};
+use crate::atoms::AtomIndex;
+use dcr_graph::{Graph, Marking};
 use dcr_log::{TextList, Trace};
 use dcr_mark::Plain;
 use dcr_set::{EventId, NoMemory};
@@ -15,6 +16,9 @@ use std::thread::Threads;
 
 // A thread takes traces of so many events at least, where there are so many.
 const PIECE: u64 = 4096;
+
+// The events of so many traces are counted at most, to tell how long they are.
+const SEEN: usize = 1024;
 
 /// How a trace is judged over the graph, from this marking, which is over as many atoms.
 /// `NoMemory` where memory for the index of the atoms' names could not be had.
@@ -29,7 +33,7 @@ pub fn judge(
     ensures judged { IfOk result (IsJudged graph.now start.now trace.now.events) }
     ensures fits { IfOk result (FitsJudged (length graph.now.names)) }
 {
-    let names = index_of(alloc, graph)?;
+    let names = AtomIndex::new(alloc, graph)?;
     Ok(walk(alloc, &names, graph, start, &trace.events))
 }
 
@@ -49,7 +53,7 @@ pub fn judge_all<R: Threads + Sync>(
     ensures as_many { IfOk result (λ answers. length answers.items ≡ length traces.now) }
     ensures fits { IfOk result (λ answers. All (FitsJudged (length graph.now.names)) answers.items) }
 {
-    let names = index_of(alloc, graph)?;
+    let names = AtomIndex::new(alloc, graph)?;
     let index = &names;
     let answers = traces
         .par_iter()
@@ -67,7 +71,7 @@ pub fn judge_all<R: Threads + Sync>(
 // How the events are judged, each at the marking that those before it have left. It takes no memory.
 fn walk(
     alloc: Global,
-    names: &NameIndex<'_>,
+    names: &AtomIndex<'_>,
     graph: &Graph,
     start: &Marking,
     events: &TextList,
@@ -97,30 +101,13 @@ fn walk(
     }
 }
 
-// The atoms' names by number.
-fn index_of(alloc: Global, graph: &Graph) -> Result<NameIndex<'_>, NoMemory>
-    ensures { IfOk result (λ index. index ≡ graph.now.names) }
-{
-    NameIndex::new(alloc, name_texts(alloc, graph)?)
-}
-
-// The texts of the atoms' names, in order.
-fn name_texts(alloc: Global, graph: &Graph) -> Result<Vec<&[u8]>, NoMemory>
-    ensures names { IfOk result (λ texts. map (λ text. text.now) texts.items ≡ graph.now.names) }
-    ensures most { IfOk result (λ texts. vec_len texts ≤ 2048) }
-{
-    let mut texts = Vec::with_capacity(alloc, usize::from(graph.atoms()))?;
-    for number in 0..graph.atoms() {
-        texts.push(graph.name(EventId(number)).text().as_bytes())?;
-    }
-    Ok(texts)
-}
-
-// How many traces make a piece for a thread. It decides what a judging costs, and no answer.
+// How many traces make a piece for a thread, by the events of some of them. It decides what a judging costs, and no answer.
 fn piece_of(traces: &[Trace]) -> usize {
+    let mut seen: u64 = 0;
     let mut events: u64 = 0;
-    for trace in traces {
+    for trace in traces.iter().step_by(traces.len() / SEEN + 1) {
+        seen = seen.saturating_add(1);
         events = events.saturating_add(trace.events.len() as u64);
     }
-    ((traces.len() as u64).saturating_mul(PIECE) / events.max(1)).max(1) as usize
+    (seen.saturating_mul(PIECE) / events.max(1)).max(1) as usize
 }

@@ -2,6 +2,7 @@
 //! whole graph, one by one or by several threads.
 #![tactic(auto)]
 
+mod atoms;
 mod judged;
 mod judging;
 mod laws;

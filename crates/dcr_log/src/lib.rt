@@ -4,6 +4,7 @@
 mod gathering;
 mod list;
 mod name;
+mod places;
 mod read;
 mod stop;
 mod trace;

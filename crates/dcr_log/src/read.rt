@@ -4,7 +4,6 @@ ghost use Rattle.std.specs.Option.{option_and_then, unwrap_or};
 ghost use Rattle.std.specs.Str.{is_utf8};
 ghost use Rattle.csv.specs.Reading.{expected_len};
 ghost use Rattle.csv.specs.Records.{fields_of};
-ghost use Rattle.dcr_log.specs.Names.{is_trace_name};
 ghost use Rattle.dcr_log.specs.Records.{Record, records_of, has_field, is_header, is_event, first_bad_behind, first_bad, TellsBad};
 ghost use Rattle.dcr_log.specs.Traces.{name_in, event_in, traces_of};
 ghost use Rattle.dcr_log.specs.Left.{left_of, IsGoing, HasRead, TellsUneven, stop_by};
@@ -12,7 +11,7 @@ ghost use Rattle.dcr_log.specs.Gathered.{with_event, IsGathering};
 ghost use Rattle.dcr_log.specs.declared.trace.Trace.{Trace};
 
 use crate::gathering::Gathering;
-use crate::{LogStop, Trace, TraceName};
+use crate::{LogStop, Trace};
 use csv::{ByteRecord, ErrorKind, Reader, ReaderBuilder};
 use dcr_set::NoMemory;
 use std::alloc::Global;
@@ -72,7 +71,7 @@ fn read_events(
     ensures bad { IfErr result (TellsBad (option_map (λ k. k + 1)
         (first_bad_behind (unwrap_or (expected_len reader.old) 0) (left_of reader.old)))) }
 {
-    let mut gathering = Gathering::new(alloc);
+    let mut gathering = Gathering::new(alloc)?;
     let mut count: u32 = 0;
     while read_next(reader, fields, count + 1)? {
         if !take_event(alloc, fields, &mut gathering)? {
@@ -95,14 +94,13 @@ fn take_event(
     ensures added { IfOk result (λ told. told ≡ true → gathering.new.traces.items
         ≡ with_event gathering.old.traces.items (name_in (fields_of fields.now)) (event_in (fields_of fields.now))) }
 {
-    let Some(name) = trace_name(fields) else {
+    let Some(name) = field(fields, 0) else {
         return Ok(false);
     };
     let Some(event) = event_text(fields) else {
         return Ok(false);
     };
-    gathering.add(alloc, name, event)?;
-    Ok(true)
+    gathering.add(alloc, name, event)
 }
 
 // Reads the next record, and answers whether there was one. `Bad` with its number where it has another number of fields
@@ -150,14 +148,6 @@ fn is_field(fields: &ByteRecord, place: usize, text: &[u8]) -> bool
         Some(found) => found == text,
         None => false,
     }
-}
-
-// The name of a trace that a record begins with.
-fn trace_name(fields: &ByteRecord) -> Option<TraceName>
-    ensures { result ≡ option_and_then (λ bytes. if is_trace_name bytes then Some bytes else None)
-        (slice_get (fields_of fields.now) 0) }
-{
-    TraceName::read(field(fields, 0)?)
 }
 
 // The text of an event that a record has behind the name.

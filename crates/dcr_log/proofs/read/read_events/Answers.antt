@@ -10,12 +10,12 @@ use Rattle.dcr_log.proofs.read.read_events.Goals as goal
 pub loop-gathering-init : goal.loop-gathering-init
 loop-gathering-init c =
     let start = c.args.reader.now in
-    taken_none (unwrap_or (expected_len start) 0) start c.new-gathering.result c.requires.going (some_is (expected_len start) c.requires.header) c.new-gathering.ensures.gathers c.new-gathering.ensures.none
+    taken_none (unwrap_or (expected_len start) 0) start c.in_ok-gathering.gathering c.requires.going (some_is (expected_len start) c.requires.header) c.in_ok-gathering.ensures.gathers c.in_ok-gathering.ensures.none
 
 pub returns-in_err-read_next-clause-bad : goal.returns-in_err-read_next-clause-bad
 returns-in_err-read_next-clause-bad c =
     let start = c.args.reader.now in
-    let p = err_from_is_err_and c.from_residual.result c.from_residual.ensures.1 in
+    let p = err_from_is_err_and c.from_residual-in_err-read_next.result c.from_residual-in_err-read_next.ensures.1 in
     rw (p.1, p.2) (stop_tells (unwrap_or (expected_len start) 0) start c.loop-gathering.reader c.loop-gathering.count c.loop-gathering.gathering c.loop-gathering.invariant
     c.in_err-read_next.field-0.0 c.in_err-read_next.ensures.uneven)
 

@@ -1,6 +1,6 @@
 use Rattle.std.proofs.Common.{◌≡◌, List, ℕ, set, ◌∙◌, sym, ap, subst}
-use Rattle.dcr_graph.specs.Names.{AreDistinct, number_of}
-use Rattle.dcr_log.specs.Gathered.{names_of, longer}
+use Rattle.dcr_graph.specs.Names.{AreDistinct}
+use Rattle.dcr_log.specs.Gathered.{AreNoted, names_of, longer}
 use Rattle.dcr_log.specs.declared.trace.Trace.{Trace}
 use Rattle.dcr_log.proofs.GatheredLemmas.{names_stay}
 use Rattle.dcr_log.proofs.gathering.Gathering.append.Goals as goal
@@ -20,5 +20,5 @@ returns-clause-gathers c =
     ∙ (ap (λ (t : Trace). names_of (set traces k (longer t c.args.event.now))) c.index_mut-trace.ensures.value ∙ names_stay traces k trace c.args.event.now) in
     record {
       distinct = subst AreDistinct (sym names) c.requires.gathers.distinct;
-      found = λ name. c.requires.gathers.found name ∙ ap (λ (ns : List (List ℕ)). number_of ns name) (sym names);
+      noted = subst (AreNoted c.args.self.now.places) (sym names) c.requires.gathers.noted;
     }

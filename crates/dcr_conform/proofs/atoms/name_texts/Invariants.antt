@@ -1,5 +1,5 @@
 use Rattle.std.proofs.Common.{◌≡◌, map, take}
-use Rattle.dcr_conform.proofs.judging.name_texts.Given as goal
+use Rattle.dcr_conform.proofs.atoms.name_texts.Given as goal
 
 -- the names of the atoms before this one
 abbrev pub invariant-loop-number : goal.invariant-loop-number
