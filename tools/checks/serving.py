@@ -146,6 +146,31 @@ def check_a_session_that_is_cut_off_ends_alone():
         want(serving.said == "".join("dcr: %s\n" % it for it in said), "it says %s" % serving.said)
 
 
+def check_replies_arrive_also_where_more_was_sent_than_is_read():
+    # (the serving ends the session at a line that is too long; the client has sent much more by then, and reads late)
+    count, rest = 2000, b"x" * 1_000_000
+    with the_port(), Serving(1, 1) as serving:
+        session = Session()
+        session.link.sendall(b"accepting\n" * count + b"y" * 300 + b"\n" + rest)
+        time.sleep(0.2)
+        replies = session.replies.read().splitlines()
+        want(len(replies) == count + 1 and replies[-1] == b"long-line", "%d replies arrive, the last one is %s" % (len(replies), replies[-1:]))
+        session.link.close()
+        want(serving.ended()[0] == DONE, "it ends otherwise")
+
+
+def check_only_this_machine_is_listened_to():
+    with the_port(), Serving(1, 1) as serving:
+        session = Session()
+        for host in ("127.0.0.2", "127.255.255.254"):
+            try:
+                socket.create_connection((host, ADDRESS[1]), timeout=10).close()
+                want(False, "somebody listens at %s too" % host)
+            except ConnectionRefusedError:
+                pass
+        want(session.ends() == b"" and serving.ended()[0] == DONE, "it ends otherwise")
+
+
 def check_nothing_is_said_where_standard_error_is_closed():
     with the_port(), open(os.path.join(TOP, "examples/medication.json"), "rb") as file:
         command = 'exec "$@" 2>&-'

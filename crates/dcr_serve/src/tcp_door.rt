@@ -8,11 +8,18 @@ use std::io;
 use std::io::ErrorKind;
 use std::net::{Ipv4Addr, Net, SocketAddr, SocketAddrV4, TcpListener, TcpStream};
 
+// So many connections in a row that were lost before they were taken are passed over.
+const MOST_LOST: u32 = 1000;
+
+// The errors by which accept(2) of Linux tells what the network had to say of one connection, and not of the listener: EPERM,
+// ENONET, EPROTO, ENOPROTOOPT, EOPNOTSUPP, ENETDOWN, ENETUNREACH, ECONNABORTED, EHOSTDOWN and EHOSTUNREACH.
+const LOST: [i32; 10] = [1, 64, 71, 92, 95, 100, 101, 103, 112, 113];
+
 /// A [`Door`] that gives the connections to a port of 127.0.0.1, as they come. It listens from its first `next` on,
 /// which fails where the port can't be had, and is never shut. It tells no links, and counts failed calls in a `u64`
-/// that stops at its largest value. A call that a signal interrupted is tried again, at most 2^64 - 1 times in a row;
-/// no other failure is. A connection that can't be made to send at once is closed, and the call has failed. No call
-/// takes memory.
+/// that stops at its largest value. A call that a signal interrupted is tried again, at most 2^64 - 1 times in a row, and
+/// one that says that a connection was lost before it was taken, at most 1,000 times in a row; no other failure is. A
+/// connection that can't be made to send at once is closed, and the call has failed. No call takes memory.
 ///
 /// This is a trusted edge: which connections come is not proved.
 #[derive(Drop)]
@@ -50,7 +57,7 @@ impl<R: Net<Listener = TcpListener, Stream = TcpStream>> TcpDoor<R> {
         }
         match &self.listener {
             Some(listener) => {
-                let stream = accept_uninterrupted(listener)?;
+                let stream = accept_next(listener)?;
                 stream.set_nodelay(true)?;
                 Ok(stream)
             }
@@ -59,16 +66,26 @@ impl<R: Net<Listener = TcpListener, Stream = TcpStream>> TcpDoor<R> {
     }
 }
 
-// One connection, tried again where a signal interrupts it.
-fn accept_uninterrupted(listener: &TcpListener) -> io::Result<TcpStream> {
+// One connection. Tried again where a signal interrupts it, and where one was lost before it was taken.
+fn accept_next(listener: &TcpListener) -> io::Result<TcpStream> {
+    let mut lost = 0;
     for _ in 0..u64::MAX {
         match listener.accept() {
             Ok((stream, _)) => return Ok(stream),
             Err(e) if e.kind() == ErrorKind::Interrupted => {}
+            Err(e) if is_lost(&e) && lost < MOST_LOST => lost += 1,
             Err(e) => return Err(e),
         }
     }
     Err(io::Error::from(ErrorKind::Interrupted))
+}
+
+// Whether the error is of one connection, and the next one may be taken.
+fn is_lost(error: &io::Error) -> bool {
+    match error.raw_os_error() {
+        Some(code) => LOST.contains(&code),
+        None => false,
+    }
 }
 
 impl<R: Net<Listener = TcpListener, Stream = TcpStream>> Door for TcpDoor<R> {

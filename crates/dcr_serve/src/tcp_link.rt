@@ -6,6 +6,7 @@ ghost use Rattle.std.specs.Io.KnownBytes.{ReadConsumes, WriteAppends};
 use dcr_base::{Failed, Link, Sink, Source, Spent, StdSink, StdSource};
 use std::marker::Model;
 use std::net::{Shutdown, TcpStream};
+use std::time::Duration;
 
 /// What stays of a [`TcpLink`]: how many of its reads and of its writes had failed, each 2^64 - 1 where there were
 /// more.
@@ -17,8 +18,17 @@ pub struct TcpRest {
     pub failed_writes: u64,
 }
 
-/// A [`Link`] over one connection. It tells no bytes. Each write is sent at once, and the writing side is shut before
-/// the connection is dropped, so that the last reply arrives. Once a read into room gave nothing the link has ended,
+// What a client still sends when its link is dropped is taken by so many reads at most, of at most so many bytes each, and
+// none waits longer.
+const LAST_READS: u32 = 32;
+
+const LAST_BYTES: usize = 65_536;
+
+const LAST_MILLIS: u64 = 500;
+
+/// A [`Link`] over one connection. It tells no bytes. Each write is sent at once. Before the connection is dropped its
+/// writing side is shut, and what the client still sends is read and thrown away, up to its end, a failure, 2 MiB or 16
+/// seconds: a connection that is closed while bytes are unread is reset, and replies that are on their way are lost. Once a read into room gave nothing the link has ended,
 /// and the connection is asked no more for bytes. A call that a signal interrupted is tried again, as those of
 /// [`StdSource`] and [`StdSink`] are; no other failure is. No call takes memory. Contracts see whether it has ended,
 /// and what failed.
@@ -170,13 +180,30 @@ impl Link for TcpLink {
 }
 
 impl Drop for TcpLink {
-    /// Shuts the writing side first.
+    /// Shuts the writing side, and reads what still comes.
     fn drop(self) {
-        let _ = self.stream.shutdown(Shutdown::Write);
         let TcpLink {
-            stream: _,
-            has_ended: _,
+            stream,
+            has_ended,
             faults: _,
         } = self;
+        if stream.shutdown(Shutdown::Write).is_ok() && !has_ended {
+            read_rest(&stream);
+        }
+    }
+}
+
+// Reads what the client still sends, for a while.
+fn read_rest(stream: &TcpStream) {
+    let wait = Duration::from_millis(LAST_MILLIS);
+    if stream.set_read_timeout(Some(wait)).is_err() {
+        return;
+    }
+    let mut bytes = [0; LAST_BYTES];
+    for _ in 0..LAST_READS {
+        match StdSource::new(stream).read(&mut bytes) {
+            Ok(0) | Err(Failed) => return,
+            Ok(_) => {}
+        }
     }
 }
