@@ -380,6 +380,19 @@ def check_a_closed_output_is_a_write_fault():
         want(told[0] == WRITE_FAULT, "%s gives status %d" % (words, told[0]))
 
 
+def check_nothing_is_begun_where_no_file_can_be_opened():
+    # (with four numbers for open files the program has one or two left, also where its output is closed)
+    said = b"dcr: the folder / can't be opened\n"
+    with tempfile.TemporaryDirectory() as folder:
+        dcr("run", "--store", given=read("examples/first.json"), cwd=folder)
+        tape = read(os.path.join(folder, "dcr.tape"))
+        for words in (("run",), ("run", "--store")):
+            for text in ('ulimit -n 4; exec "$@"', 'exec >&-; ulimit -n 4; exec "$@"'):
+                told = in_shell(text, *words, given=read("examples/first.json"), cwd=folder)
+                want(told == (DISK_FAULT, b"", said), "it ends with %s" % (told,))
+        want(read(os.path.join(folder, "dcr.tape")) == tape, "the tape has changed")
+
+
 def check_a_closed_output_leaves_the_tape_alone():
     with tempfile.TemporaryDirectory() as folder:
         told = in_shell('exec "$@" >&-', "run", "--store", given=read("examples/medication.json"), cwd=folder)
@@ -400,6 +413,19 @@ def check_a_file_that_may_not_grow_gets_a_front():
         report = dcr("run", given=large_case())[1]
         wrote = file.read()
     want(told[0] == WRITE_FAULT and 0 < len(wrote) < len(report) and report.startswith(wrote), "status %d, %d bytes" % (told[0], len(wrote)))
+
+
+def check_a_report_that_replay_would_not_read_is_told():
+    names = ["n%03d%s" % (k, "x" * 60) for k in range(1000)]
+    events = [{"name": name, "executed": True, "pending": True} for name in names]
+    file = {"graph": {"events": events}, "cover": [{"site": "s", "events": names}], "sessions": [["look s"] * 1450]}
+    with open(os.devnull, "wb") as nothing:
+        told = dcr("run", given=json.dumps(file).encode(), stdout=nothing)
+        file["sessions"][0] = file["sessions"][0][:1300]
+        less = dcr("run", given=json.dumps(file).encode(), stdout=nothing)
+    said = b"dcr: more than 268435456 bytes are written: replay reads no report that is longer\n"
+    want((told[0], told[2]) == (DONE, said), "status %d, and it says %s" % (told[0], told[2]))
+    want((less[0], less[2]) == (DONE, b""), "of a report that isn't as long it says %s" % less[2])
 
 
 # ---- memory

@@ -12,7 +12,7 @@ ghost use Rattle.dcr.specs.Exit.{Exits, IsUntouched};
 
 mod telling;
 
-use crate::telling::{TellingDoor, number_behind, tell_failure};
+use crate::telling::{TellingDoor, TellingSink, number_behind, tell_failure};
 use dcr_app::{Status, dcr};
 use dcr_base::{Disk, Door, FileDisk, Gate, Link, OpenGate, Sink, Source, StdSink, StdSource};
 use std::alloc::Global;
@@ -31,12 +31,18 @@ const NOWHERE: &str = "/";
 
 fn main(rt: HostRuntime) -> ExitCode {
     // Where the process was started with one of its three streams closed, the folder gets its number: else the tape or a
-    // connection would get it, and the report would be written there.
-    let _first = File::open(&rt, NOWHERE);
-    let _second = File::open(&rt, NOWHERE);
-    let _third = File::open(&rt, NOWHERE);
+    // connection would get it, and the report would be written there. Where the folder can't be opened nothing is begun.
+    let Ok(_first) = File::open(&rt, NOWHERE) else {
+        return unopened(&rt);
+    };
+    let Ok(_second) = File::open(&rt, NOWHERE) else {
+        return unopened(&rt);
+    };
+    let Ok(_third) = File::open(&rt, NOWHERE) else {
+        return unopened(&rt);
+    };
     let mut input = StdSource::new(rt.reader());
-    let mut output = StdSink::new(io::writer(&rt));
+    let mut output = TellingSink::new(&rt, StdSink::new(io::writer(&rt)));
     let Ok(files) = rt.clone() else {
         return exit_of(Status::NoMemory);
     };
@@ -53,6 +59,14 @@ fn main(rt: HostRuntime) -> ExitCode {
         disk,
         OpenGate,
     )
+}
+
+// Ends where the folder can't be opened, with nothing read, and nothing written but a line on standard error.
+fn unopened<R: Eprint>(rt: &R) -> ExitCode
+    ensures { exit_status result ≡ code_of Status.DiskFault }
+{
+    let _said = eprintln!(rt; "dcr: the folder {NOWHERE} can't be opened");
+    exit_of(Status::DiskFault)
 }
 
 // The whole program: the words behind the first are the command, and the process ends with the number of the status

@@ -195,6 +195,48 @@ impl<'r, R: Eprint> Link for TellingLink<'r, R> {
     ghost source_is = { λ link. refl };
 }
 
+// A report with more bytes is too long for `replay`.
+const MOST_REPLAYED: u64 = 268_435_456;
+
+/// A sink that says where more was written than a report may have that `replay` reads.
+#[derive(Drop)]
+pub(crate) struct TellingSink<'r, S, R> {
+    sink: S,
+    rt: &'r R,
+    written: u64,
+}
+
+impl<'r, S, R> TellingSink<'r, S, R> {
+    /// Over this sink, by which nothing was written yet.
+    pub(crate) fn new(rt: &'r R, sink: S) -> TellingSink<'r, S, R> {
+        TellingSink {
+            sink,
+            rt,
+            written: 0,
+        }
+    }
+}
+
+impl<'r, S: Sink, R: Eprint> Sink for TellingSink<'r, S, R> {
+    ghost taken = { λ sink. S.taken sink.sink };
+
+    ghost write_faults = { λ sink. S.write_faults sink.sink };
+
+    ghost source_side = { λ sink. S.source_side sink.sink };
+
+    fn write(&mut self, bytes: &[u8]) -> Result<usize, Failed> {
+        let taken = self.sink.write(bytes)?;
+        let before = self.written;
+        self.written = before.saturating_add(taken as u64);
+        if before <= MOST_REPLAYED && MOST_REPLAYED < self.written {
+            let _said = eprintln!(self.rt;
+                "dcr: more than {MOST_REPLAYED} bytes are written: replay reads no report that is longer"
+            );
+        }
+        Ok(taken)
+    }
+}
+
 /// The number that the words have behind this one; 0 where they have none.
 pub(crate) fn number_behind(words: io::Result<Args>, before: &str) -> u32 {
     let Ok(mut words) = words else {
