@@ -50,9 +50,9 @@ def edits_of(name, top=TOP, folder="edits"):
     return sorted(glob.glob(os.path.join(top, "crates", name, folder, "*.edit")))
 
 
-def applied(path, crate):
-    """The texts that the edit changes, by their files in the crate's folder. A ValueError says why it can't be applied."""
-    texts, was, file, old = {}, {}, None, None
+def changes(path):
+    """What the edit changes: files, each with the text that goes and the one that comes. A ValueError says why it can't be read."""
+    found, file, old = [], None, None
     with open(path, encoding="utf-8") as it:
         lines = it.read().split("\n")
     for line in lines:
@@ -65,15 +65,24 @@ def applied(path, crate):
         elif line.startswith("new:"):
             if file is None or not old:
                 raise ValueError("a line `new:` stands before `file:` and `old:`")
-            if file not in texts:
-                try:
-                    with open(os.path.join(crate, file), encoding="utf-8") as it:
-                        texts[file] = was[file] = it.read()
-                except OSError:
-                    raise ValueError("there is no file %s" % file) from None
-            if texts[file].count(old) != 1:
-                raise ValueError("its old text is %d times in %s, and not once: %s" % (texts[file].count(old), file, old))
-            texts[file], old = texts[file].replace(old, line[4:][line[4:5] == " " :]), None
+            found.append((file, old, line[4:][line[4:5] == " " :]))
+            old = None
+    return found
+
+
+def applied(path, crate):
+    """The texts that the edit changes, by their files in the crate's folder. A ValueError says why it can't be applied."""
+    texts, was = {}, {}
+    for file, old, new in changes(path):
+        if file not in texts:
+            try:
+                with open(os.path.join(crate, file), encoding="utf-8") as it:
+                    texts[file] = was[file] = it.read()
+            except OSError:
+                raise ValueError("there is no file %s" % file) from None
+        if texts[file].count(old) != 1:
+            raise ValueError("its old text is %d times in %s, and not once: %s" % (texts[file].count(old), file, old))
+        texts[file] = texts[file].replace(old, new)
     if texts == was:
         raise ValueError("it changes nothing")
     return texts

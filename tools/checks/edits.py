@@ -8,6 +8,8 @@ from checks import TOP, NotTried, want
 sys.path.insert(0, os.path.join(TOP, "tools"))
 from tried import Sums, applied, crates, edits_of, record, stands  # noqa: E402
 
+MOST_AT_THE_GATE = 30
+
 
 def check_each_edit_can_be_applied():
     lost = []
@@ -35,3 +37,9 @@ def check_the_record_shows_that_each_edit_is_refused():
 def check_no_edit_stands_twice():
     twice = [it for name in crates() for it in {*map(os.path.basename, edits_of(name))} & {*map(os.path.basename, edits_of(name, folder="must-fail"))}]
     want(not twice, "in both folders: %s" % ", ".join(twice))
+
+
+def check_the_gate_tries_few():
+    # (each costs a check of its crate at every run of the gate, and a second one in a crate that crate's proof once more)
+    count = sum(len(edits_of(name, folder="must-fail")) for name in crates())
+    want(count <= MOST_AT_THE_GATE, "%d stand in must-fail folders, and at most %d are to" % (count, MOST_AT_THE_GATE))
