@@ -204,6 +204,31 @@ def check_what_was_answered_is_on_the_tape():
             want(status == DONE and b"\nopen executed pm pending s,gm included pm,s,gm,dt\n" in report, "status %d and another report" % status)
 
 
+def check_a_second_program_is_kept_from_a_tape():
+    with the_port(), tempfile.TemporaryDirectory() as folder:
+        with Serving(1, 1, "--store", folder=folder) as serving:
+            session = Session()
+            want(session.asks(b"exec doctor pm") == b"0 0 0 exec doctor pm done\n", "it isn't answered")
+            tape = read(os.path.join(folder, "dcr.tape"))
+            told = dcr("run", "--store", given=read("examples/medication.json"), cwd=folder)
+            want(told[:2] == (DISK_FAULT, b"") and read(os.path.join(folder, "dcr.tape")) == tape, "the second one ends with %s" % (told,))
+            want(session.asks(b"exec doctor s") == b"1 0 1 exec doctor s done\n" and session.ends() == b"", "the first one isn't answered again")
+            want(serving.ended()[0] == DONE, "the first one ends otherwise")
+        told = dcr("run", "--store", given=read("examples/medication.json"), cwd=folder)
+        want(told[0] == DONE and dcr("replay", given=told[1])[0] == DONE, "the next one ends with status %d" % told[0])
+
+
+def check_a_tape_that_is_a_symbolic_link_is_a_disk_fault():
+    for is_there in (False, True):
+        with tempfile.TemporaryDirectory() as folder:
+            if is_there:
+                dcr("run", "--store", given=read("examples/medication.json"), cwd=folder)
+                os.rename(os.path.join(folder, "dcr.tape"), os.path.join(folder, "elsewhere"))
+            os.symlink("elsewhere", os.path.join(folder, "dcr.tape"))
+            told = dcr("run", "--store", given=read("examples/medication.json"), cwd=folder)
+            want(told[:2] == (DISK_FAULT, b"") and os.path.exists(os.path.join(folder, "elsewhere")) == is_there, "it ends with %s" % (told,))
+
+
 def check_a_serving_without_a_store_leaves_the_folder_alone():
     with the_port(), tempfile.TemporaryDirectory() as folder:
         with Serving(1, 1, folder=folder) as serving:

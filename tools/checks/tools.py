@@ -169,17 +169,6 @@ def check_a_chain_takes_both_ends_of_an_execution_that_could_not_be_kept():
             want(told[0] == status, "%s: %s" % (name, told))
 
 
-def check_a_second_program_is_kept_from_a_tape_by_flock():
-    # The command that GUIDE shows: while one holds the lock a second one ends with the status that is named.
-    line = 'flock -n -E 75 dcr.lock "$0" run --store < "$1"'
-    want("flock -n -E 75 dcr.lock ./dcr run --store" in read("docs/GUIDE.md").decode(), "GUIDE doesn't show it")
-    with tempfile.TemporaryDirectory() as folder:
-        program, case = os.path.join(TOP, "crates/dcr/out/dcr"), path_of("stored/monday.json")
-        held = run(["flock", "dcr.lock", "sh", "-c", line, program, case], cwd=folder)
-        want(held == (75, b"", b"") and not os.path.exists(os.path.join(folder, "dcr.tape")), "while it is held: %s" % (held,))
-        told = run(["sh", "-c", line, program, case], cwd=folder)
-        want(told == (0, read(MONDAY), b""), "where nobody holds it: %d" % told[0])
-
 
 # ---- reports as JSON
 

@@ -5,10 +5,10 @@ ghost use Rattle.dcr_base.specs.Disk.{Stays, Writes, Wrote, Torn, bytes_at, writ
 use crate::{Disk, Failed, read_from, write_over};
 use std::alloc::Global;
 use std::fs::{File, OpenOptions};
-use std::io;
 use std::io::ErrorKind;
 use std::os::unix::fs::FileExt;
 use std::rt::Files;
+use std::{fs, io};
 
 // The file, in the current folder.
 const NAME: &str = "dcr.tape";
@@ -21,9 +21,12 @@ const PIECE: usize = 16_384;
 
 /// A [`Disk`] over the file `dcr.tape` in the current folder. The file is opened, and made where it is missing, at the
 /// first call, which reads all of it. From then on reads are answered from memory, so that a read repeats what was
-/// read or written. A file of more than 64 MiB is a fault, and so is want of memory for its bytes.
+/// read or written. A file of more than 64 MiB is a fault, and so is want of memory for its bytes. The file is locked for as
+/// long as the disk lives: one that another process has locked is a fault, with nothing read and nothing written, and so is
+/// one that is a symbolic link.
 ///
-/// A sync makes the data of the file and its length durable, and the first one the file's entry in its folder too.
+/// A sync makes the data of the file and its length durable, and the first one the file's entry in its folder too, but where
+/// the folder may not be read.
 /// After a write or a sync of the file that failed all further ones fail, since the system may have dropped what was
 /// written.
 ///
@@ -184,7 +187,7 @@ impl OpenFile {
             self.file.sync_data()?;
         } else {
             self.file.sync_all()?;
-            File::open(rt, ".")?.sync_all()?;
+            sync_folder(rt)?;
             self.entered = true;
         }
         self.lost = false;
@@ -192,13 +195,36 @@ impl OpenFile {
     }
 }
 
+// Whether the name is a symbolic link's.
+fn is_link<R: Files<File = File>>(rt: &R) -> bool {
+    match fs::symlink_metadata(rt, NAME) {
+        Ok(found) => found.is_symlink(),
+        Err(_) => false,
+    }
+}
+
+// Makes the entries of the current folder durable. One that may not be read can't be opened for that, and is left out.
+fn sync_folder<R: Files<File = File>>(rt: &R) -> io::Result<()> {
+    match File::open(rt, ".") {
+        Ok(folder) => folder.sync_all(),
+        Err(e) if e.kind() == ErrorKind::PermissionDenied => Ok(()),
+        Err(e) => Err(e),
+    }
+}
+
 // Opens the file, makes it where it is missing, and reads all of it.
 fn open_file<R: Files<File = File>>(alloc: Global, rt: &R) -> io::Result<OpenFile> {
+    if is_link(rt) {
+        return Err(io::Error::from(ErrorKind::InvalidInput));
+    }
     let file = OpenOptions::new()
         .read(true)
         .write(true)
         .create(true)
         .open(rt, NAME)?;
+    if file.try_lock().is_err() {
+        return Err(io::Error::from(ErrorKind::ResourceBusy));
+    }
     let bytes = read_whole(alloc, &file)?;
     Ok(OpenFile {
         file,

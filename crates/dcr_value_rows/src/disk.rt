@@ -17,6 +17,15 @@ fn a_file_is_made_written_to_and_found_again(rt: HostRuntime) -> Result<(), Fail
         same(&rt, &disk.write_at(at, bytes), &told, "a write");
         same(&rt, &disk.sync(), &Ok(()), "a sync");
     }
+    let mut other = FileDisk::new(rt.alloc(), rt.clone()?);
+    same(&rt, &other.len(), &Err(Failed), "a disk that has the file");
+    same(
+        &rt,
+        &other.write_at(0, b"x"),
+        &Err(Failed),
+        "a disk that has the file",
+    );
+    drop(other);
     drop(disk);
     let bytes = fs::read(&rt, "dcr.tape")?;
     same_bytes(&rt, bytes.as_slice(), b"abcdEFGH", "the file");
