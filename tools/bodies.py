@@ -129,7 +129,8 @@ class Bodies:
                 if file not in trial:
                     with open(os.path.join(self.crate, file), encoding="utf-8") as it:
                         trial[file] = it.read()
-                trial[file] = trial[file].replace(old, new) if trial[file].count(old) == 1 else None
+                # (another edit may have taken what this one changes)
+                trial[file] = trial[file].replace(old, new) if (trial[file] or "").count(old) == 1 else None
             if bodies[edit].path() not in taken and None not in trial.values():
                 taken[bodies[edit].path()], texts = edit, trial
         return taken, texts
