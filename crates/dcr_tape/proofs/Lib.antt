@@ -1,6 +1,7 @@
 pub mod AppendLemmas
 pub mod AppendRun
 pub mod DurableLemmas
+pub mod EachLemmas
 pub mod FindLemmas
 pub mod OpenLemmas
 pub mod PartLemmas

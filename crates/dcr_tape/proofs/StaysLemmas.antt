@@ -33,3 +33,10 @@ stays_steady mid new durable stays honest = record {
   honest = honest_as mid new stays.honest honest;
   only = λ c left. durable.only honest c (stays.no_more honest c left) ∙ sym ((stays.told durable.told).1);
 }
+
+-- and where nothing was pending before such calls
+pub steady_stays : (old new : DiskView) → Stays old new → IsSteady old → IsSteady new
+steady_stays old new stays steady = record {
+  honest = honest_as old new stays.honest steady.honest;
+  only = λ c left. steady.only c (stays.no_more steady.honest c left) ∙ sym ((stays.told (old.honest_tells steady.honest)).1);
+}

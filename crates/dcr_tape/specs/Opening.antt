@@ -57,6 +57,10 @@ IsShown Long = Unit {0}
 IsShown DiskFault = ⊥
 IsShown NoMemory = ⊥
 
+-- the making of a tape may be stopped at this content: it has no more bytes than a tape of no entries
+abbrev pub IsUnmade : List ℕ → Type 0
+IsUnmade content = length content ≤ 65
+
 -- What an opening of a disk as the tape of the case with this digest did, where it succeeded: the content stands for
 -- these entries by this part. An empty disk was made a tape of no entries; else nothing was changed.
 pub record Opened (old new : DiskView) (digest : List ℕ) (part : Part) (entries : List TapeEntry) : Type 0 where
@@ -74,6 +78,8 @@ pub record Opened (old new : DiskView) (digest : List ℕ) (part : Part) (entrie
   pub steady : IsTrue old.honest → IsSteady new
   -- reading leaves what a crash might have left before
   pub any_moment : IsTrue old.honest → before ≢ [] → LeavesOnly old new old.may_leave
+  -- and making at most as many bytes as were to be written
+  pub making : IsSteady old → before ≡ [] → LeavesOnly old new IsUnmade
 
 -- the same where it failed, for this cause: a content that isn't empty is as it was
 pub record Refused (old new : DiskView) (digest : List ℕ) (cause : TapeCause) : Type 0 where
@@ -83,3 +89,5 @@ pub record Refused (old new : DiskView) (digest : List ℕ) (cause : TapeCause) 
   pub shown : IsShown cause → IsTrue new.told × (before ≢ []) × (new.content ≡ before)
   pub kept : before ≢ [] → IsTrue old.told → IsTrue new.told × (new.content ≡ before)
   pub any_moment : IsTrue old.honest → before ≢ [] → LeavesOnly old new old.may_leave
+  pub steady : cause ≢ DiskFault → IsSteady old → IsSteady new
+  pub making : IsSteady old → before ≡ [] → LeavesOnly old new IsUnmade

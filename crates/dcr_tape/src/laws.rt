@@ -1,4 +1,4 @@
-ghost use Rattle.dcr_tape.specs.Laws.{NoCause, OneCause, OneList};
+ghost use Rattle.dcr_tape.specs.Laws.{EachContentIs, NoCause, OneCause, OneList};
 
 /// A content has at most one part in force, and stands for at most one list of executions.
 pub fn one_list()
@@ -13,4 +13,9 @@ pub fn one_cause()
 /// None of them stands in a content that stands for at most 1,000,000 executions of the case.
 pub fn no_cause()
     ensures { NoCause }
+{}
+
+/// Each content is empty, or stands for at most 1,000,000 executions of the case, or shows a cause for which it is refused.
+pub fn each_content_is()
+    ensures { EachContentIs }
 {}

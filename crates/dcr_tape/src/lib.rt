@@ -17,7 +17,7 @@ mod width;
 
 pub use cause::TapeCause;
 pub use entry::TapeEntry;
-pub use laws::{no_cause, one_cause, one_list};
+pub use laws::{each_content_is, no_cause, one_cause, one_list};
 pub use open::{TapeRefused, open_tape};
 pub use stop::{DiskFault, RenewStop};
 pub use tape::{MOST_ENTRIES, Store, Tape};

@@ -1,5 +1,5 @@
 ghost use Rattle.std.specs.Prelude.{◌≡◌, ◌≤◌, ◌^◌, [], length, false, IsTrue, IfOk, IfErr, OnOk};
-ghost use Rattle.dcr_base.specs.Disk.{Stays, Wrote, IsSteady};
+ghost use Rattle.dcr_base.specs.Disk.{Stays, Torn, Wrote, IsSteady, LeavesOnly};
 ghost use Rattle.dcr_tape.specs.Tape.{Holds, part_bytes};
 ghost use Rattle.dcr_tape.specs.Opening.{Opened, Refused, IsCause, most_records};
 ghost use Rattle.dcr_tape.specs.Found.{part_found, CountsCause, CountsFaultOf};
@@ -98,6 +98,8 @@ fn open_disk<D: Disk>(alloc: Global, disk: &mut D, digest: &[u8; 32]) -> Result<
 fn make<D: Disk>(disk: &mut D, digest: &[u8; 32]) -> Result<(), TapeCause>
     ensures made { OnOk result (Wrote 0 (part_bytes digest.now []) (D.view disk.old) (D.view disk.new)) }
     ensures steady { IsSteady (D.view disk.old) → OnOk result (IsSteady (D.view disk.new)) }
+    ensures any_moment { IsSteady (D.view disk.old) → LeavesOnly (D.view disk.old) (D.view disk.new)
+        (Torn 0 (length (part_bytes digest.now [])) (D.view disk.old).content) }
     ensures honest { (D.view disk.new).honest ≡ (D.view disk.old).honest }
     ensures cause { IfErr result (λ cause. cause ≡ TapeCause.DiskFault) }
     ensures counts { CountsCause result (D.faults disk.old) (D.faults disk.new) }
