@@ -86,6 +86,13 @@ impl<D: Disk, N: StoreName<D>> Kept<D, N> {
         }
     }
 
+    /// The store as it stands.
+    pub fn store(&self) -> &Store<D>
+        ensures { result.now ≡ self.now.store }
+    {
+        &self.store
+    }
+
     /// The store.
     pub fn into_store(self) -> Store<D>
         ensures { result ≡ self.store }

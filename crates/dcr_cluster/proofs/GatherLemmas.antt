@@ -181,7 +181,6 @@ module _ {D : Type 0} (c : ClusterId) (first : Option (Store D)) (capacity : ℕ
   answered_by turn before after row row_after call told (Err halt) made = tt
 
   pub halted_by : (turn : TurnId) (before after : PassValue) (row row_after : List FrontValue) (call : Call) (told : Outcome) (ended : Result (Unit {0}) Halt)
-      → Made c first capacity turn before after row row_after call (ending told ended) → IfErr ended (HaltedAfter c first capacity after.front before after)
+      → Made c first capacity turn before after row row_after call (ending told ended) → IfErr ended (λ halt. (J : List Entry) × HaltedAfter c first capacity J before after halt)
   halted_by turn before after row row_after call told (Ok done) made = tt
-  halted_by turn before after row row_after call told (Err halt) made =
-      subst (λ (J : List Entry). HaltedAfter c first capacity J before after halt) (sym made.ends.front) made.ends
+  halted_by turn before after row row_after call told (Err halt) made = (made.J, made.ends)

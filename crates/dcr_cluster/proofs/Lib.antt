@@ -7,5 +7,5 @@ mod BlockLemmas
 pub mod OpeningLemmas
 mod OpenLemmas
 mod PoppingLemmas
-mod StoreLemmas
+pub mod StoreLemmas
 mod ClosingLemmas

@@ -28,7 +28,11 @@ module _ {D : Type 0} (view : D → DiskView) (faults : D → ℕ) (old : List T
       → (why ≡ stop.NoMemory → new ≡ first) → (why ≡ stop.DiskFault → (faults first.disk ≤ faults new.disk) × Rose (faults first.disk) (faults new.disk))
       → Leaves view faults old (cause_of why) (On first) (On new)
   left_by first new stop.DiskFault may images none counts = let up = counts refl in (λ honest. images old may.1 (may.2 honest), up.0, up.1)
-  left_by first new stop.NoMemory may images none counts = (λ honest. images old may.1 (may.2 honest), ap (λ (t : Tape D). faults t.disk) (none refl))
+  left_by first new stop.NoMemory may images none counts = (
+    λ honest. images old may.1 (may.2 honest),
+    ap (λ (t : Tape D). faults t.disk) (none refl),
+    λ honest. subst (λ (t : Tape D). IsSteady (view t.disk)) (sym (none refl)) (may.2 honest),
+  )
 
   nothing_failed : HasNoFault []
   nothing_failed = All-nil (λ (e : Entry). e.outcome ≡ Faulted → ⊥)
@@ -43,6 +47,7 @@ module _ {D : Type 0} (view : D → DiskView) (faults : D → ℕ) (old : List T
     λ honest. started (view tape.disk) (StandsFor tape.digest old) (λ c left.
         subst (StandsFor tape.digest old) (sym ((may.2 honest).only c left)) (record { part = part_of tape; same_case = refl; holds = may.1.holds })),
     refl,
+    may.2,
   )
 
   -- a store over which no call was made
@@ -57,6 +62,7 @@ module _ {D : Type 0} (view : D → DiskView) (faults : D → ℕ) (old : List T
         (ap (take some.count) nothing_tried ∙ take_all some.count old some.has_old) some.stands)
         (stands.any_moment honest),
     (stands.goes_on nothing_failed).no_fault,
+    (stands.goes_on nothing_failed).steady,
   )
 
 pub cause_stands : (c : ClusterId) (why : RenewStop) → ArePossible c (length c.old) → IsCause c (cause_of why)

@@ -1,7 +1,7 @@
 -- Which executions a cluster can go on from, and what a refusal to open one leaves.
 use Rattle.std.specs.Prelude.{◌≡◌, ℕ, ◌<◌, ◌≤◌, IsTrue, List, length, take, slice_get, Some}
 use Rattle.dcr_base.specs.Count.{Rose}
-use Rattle.dcr_base.specs.Disk.{DiskView, LeavesOnly}
+use Rattle.dcr_base.specs.Disk.{DiskView, IsSteady, LeavesOnly}
 use Rattle.dcr_graph.specs.declared.marking.Marking.{Marking}
 use Rattle.dcr_journal.specs.Answer.{answer}
 use Rattle.dcr_journal.specs.declared.call.Call.TheVariants.{Exec}
@@ -44,9 +44,10 @@ abbrev pub LeavesOld : {D : Type 0} → (D → DiskView) → List TapeEntry → 
 LeavesOld view old digest first disk = IsTrue (view first).honest → LeavesOnly (view first) (view disk) (StandsFor digest old)
 
 -- What a refusal for this cause leaves of the store `first`: the store as it was, but where the disk failed, or where there
--- was no memory for a cluster over a tape. The tape may be renewed then.
+-- was no memory for a cluster over a tape. The tape may be renewed then, and over an honest disk nothing is pending.
 abbrev pub Leaves : {D : Type 0} → (D → DiskView) → (D → ℕ) → List TapeEntry → OpenCause → Store D → Store D → Type 0
-Leaves view faults old NoMemory (On first) (On tape) = LeavesOld view old first.digest first.disk tape.disk × (faults tape.disk ≡ faults first.disk)
+Leaves view faults old NoMemory (On first) (On tape) =
+    LeavesOld view old first.digest first.disk tape.disk × (faults tape.disk ≡ faults first.disk) × (IsTrue (view first.disk).honest → IsSteady (view tape.disk))
 Leaves view faults old DiskFault (On first) (On tape) =
     LeavesOld view old first.digest first.disk tape.disk × (faults first.disk ≤ faults tape.disk) × Rose (faults first.disk) (faults tape.disk)
 Leaves view faults old DiskFault first store = ⊥

@@ -30,10 +30,14 @@ impl<D: Disk, G: Gate, N: StoreName<D>> Cluster<D, G, N> {
     /// `Faulted` comes where the execution could be done and the tape failed to keep it; no mark changed then. `Stopped`
     /// comes exactly where a fault ends the entries before it, else `Full` exactly where they are as many as there may
     /// be; no entry was made then, and no mark changed.
+    ///
+    /// The entries `J` after which a call is answered are a beginning of one list, which all calls of the cluster have in
+    /// common: what a pass has seen then is that beginning and the call's own entry, of any two passes what one has seen
+    /// begins what the other has (`learn`), and the history at the end begins with what each has seen (`close`).
     pub fn call<R: Wait>(&self, rt: &R, pass: &mut Pass<N>, call: Call) -> Result<Outcome, Halt>
         requires { IsCall N.cluster call }
         ensures answered { IfOk result (λ outcome. (J : List Entry) × AnsweredAfter N.cluster N.first N.capacity J pass.old pass.new call outcome) }
-        ensures halted { IfErr result (HaltedAfter N.cluster N.first N.capacity pass.new.front pass.old pass.new) }
+        ensures halted { IfErr result (λ halt. (J : List Entry) × HaltedAfter N.cluster N.first N.capacity J pass.old pass.new halt) }
     {
         let mut told = Outcome::AllDone;
         match self.call_into(rt, pass, &call, &mut told) {
@@ -53,7 +57,7 @@ impl<D: Disk, G: Gate, N: StoreName<D>> Cluster<D, G, N> {
     ) -> Result<(), Halt>
         requires { IsCall N.cluster call.now }
         ensures answered { OnOk result ((J : List Entry) × AnsweredAfter N.cluster N.first N.capacity J pass.old pass.new call.now told.new) }
-        ensures halted { IfErr result (HaltedAfter N.cluster N.first N.capacity pass.new.front pass.old pass.new) }
+        ensures halted { IfErr result (λ halt. (J : List Entry) × HaltedAfter N.cluster N.first N.capacity J pass.old pass.new halt) }
     {
         let mut fronts = self.turn.row();
         self.make(rt, pass, &mut fronts, call, told)

@@ -7,6 +7,7 @@ mod close;
 mod cluster;
 mod going_on;
 mod halt;
+mod lend;
 mod open;
 mod prepare;
 mod push;
