@@ -84,8 +84,8 @@ module _ {D L R : Type 0} (tells : Tells L R) (first : Option (Store D)) (capaci
       )
 
   pub asked_of : (links : Option (List L)) (end : LinkEnd L R) → IsServedOf tells first capacity terms links (pass_in J k) end → HasAsked tells terms links k (calls_of k J) end
-  asked_of links end it = λ all link asked had told there left taken.
+  asked_of links end it = λ all link asked told there left.
       let number : slice_get all k ≡ Some it.link = subst (λ (l : Option (List L)). HasNumber l k it.link) told it.number in
       let same : it.link ≡ link = one_of it.link link (sym number ∙ there) in
-      let wrote = it.served.serves asked had (ap tells.left same ∙ left) (ap tells.taken same ∙ taken) in
+      let wrote = it.served.serves asked (ap tells.left same ∙ left) in
       asked_by_served asked wrote.0 _ end.end wrote.2

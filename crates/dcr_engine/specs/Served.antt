@@ -24,10 +24,10 @@ abbrev pub most_served : ℕ
 most_served = 200000
 
 -- The session's calls are the first ones of those that the whole lines of its link spell and that are allowed, where that tells
--- its bytes, and all of them where the link's input ended.
+-- the bytes that it had left, and all of them where the link's input ended.
 abbrev pub HasAsked : {L R : Type 0} → Tells L R → Terms → Option (List L) → ℕ → List Call → LinkEnd L R → Type 0
 HasAsked tells terms links k calls end =
-    (all : List _) (link : _) (asked had : List ℕ) → links ≡ Some all → slice_get all k ≡ Some link → tells.left link ≡ Some asked → tells.taken link ≡ Some had
+    (all : List _) (link : _) (asked : List ℕ) → links ≡ Some all → slice_get all k ≡ Some link → tells.left link ≡ Some asked
     → (calls ≡ take end.end.calls (calls_asked terms k asked)) × (end.end.cause ≡ Ended → calls ≡ calls_asked terms k asked)
 
 -- Of so many sessions the first ones were served, each over the link of its number among these: what was asked over it, what

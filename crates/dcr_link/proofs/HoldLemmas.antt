@@ -101,6 +101,7 @@ module _ {D : Type 0} (c : ClusterId) (first : Option (Store D)) (capacity : ℕ
           short = All-nil (λ (line : List ℕ). is_short line ≡ true);
           not_long = not_long;
           begun_short = subst (λ (l : List ℕ). length l ≤ most_bytes) (sym none) (omega arith);
+          none_further = λ most. none;
           session = refl;
           not_fewer = le_of _ _ (sym many);
           made = zero_more pass.made (length (made_since pass pass)) (ap length nothing);
@@ -134,30 +135,26 @@ module _ {D : Type 0} (c : ClusterId) (first : Option (Store D)) (capacity : ℕ
     pub serves_end : (left left_now taken taken_now : Option (List ℕ)) (came written : List ℕ) (failed wider : Type 0) (end : WorkEnd) → Consumes left left_now came → Appends taken taken_now written
         → (failed → wider) → ((more : List ℕ) → Served first capacity terms (came ++ more) before after written failed end)
         → Serves first capacity terms before after left taken taken_now wider end
-    serves_end (Some asked) (Some more) (Some had) (Some has) came written failed wider end gone added widen served = λ all old is_all is_old. (
+    serves_end (Some asked) (Some more) taken taken_now came written failed wider end gone added widen served = λ all is_all. (
       written,
-      ap (λ (l : List ℕ). Some l) (added ∙ ap (λ (l : List ℕ). l ++ written) (same_Some _ _ is_old)),
+      added,
       subst (λ (l : List ℕ). Served first capacity terms l before after written wider end) (sym gone ∙ same_Some _ _ is_all)
           (served_wider (came ++ more) written failed wider end widen (served more)),
     )
-    serves_end None left_now taken taken_now came written failed wider end gone added widen served = λ all old is_all is_old. absurd (none_some _ is_all)
+    serves_end None left_now taken taken_now came written failed wider end gone added widen served = λ all is_all. absurd (none_some _ is_all)
     serves_end (Some asked) None taken taken_now came written failed wider end gone added widen served = absurd gone
-    serves_end (Some asked) (Some more) None taken_now came written failed wider end gone added widen served = λ all old is_all is_old. absurd (none_some _ is_old)
-    serves_end (Some asked) (Some more) (Some had) None came written failed wider end gone added widen served = absurd added
 
     -- the input has ended
     pub serves_input : (left left_now taken taken_now : Option (List ℕ)) (came written : List ℕ) (failed : Type 0) (end : WorkEnd) → Consumes left left_now came → IsAtEnd left_now → Appends taken taken_now written
         → Served first capacity terms came before after written failed end → Serves first capacity terms before after left taken taken_now failed end
-    serves_input (Some asked) (Some more) (Some had) (Some has) came written failed end gone none added served = λ all old is_all is_old. (
+    serves_input (Some asked) (Some more) taken taken_now came written failed end gone none added served = λ all is_all. (
       written,
-      ap (λ (l : List ℕ). Some l) (added ∙ ap (λ (l : List ℕ). l ++ written) (same_Some _ _ is_old)),
+      added,
       subst (λ (l : List ℕ). Served first capacity terms l before after written failed end)
           (sym (append-nil came) ∙ ap (λ (l : List ℕ). came ++ l) (sym none) ∙ sym gone ∙ same_Some _ _ is_all) served,
     )
-    serves_input None left_now taken taken_now came written failed end gone none added served = λ all old is_all is_old. absurd (none_some _ is_all)
+    serves_input None left_now taken taken_now came written failed end gone none added served = λ all is_all. absurd (none_some _ is_all)
     serves_input (Some asked) None taken taken_now came written failed end gone none added served = absurd gone
-    serves_input (Some asked) (Some more) None taken_now came written failed end gone none added served = λ all old is_all is_old. absurd (none_some _ is_old)
-    serves_input (Some asked) (Some more) (Some had) None came written failed end gone none added served = absurd added
 
   -- ---- a piece more
 
@@ -226,9 +223,9 @@ module _ {D : Type 0} (c : ClusterId) (first : Option (Store D)) (capacity : ℕ
   no_session pass left taken failed counted =
       let many : length (placed_of pass.session pass.front) ≡ pass.made = length-placed pass.session 0 pass.front ∙ sym counted in
       let nothing : made_since pass pass ≡ [] = drop_all pass.made (placed_of pass.session pass.front) (le_of _ _ many) in
-      λ asked had is_left is_taken. (
+      λ asked is_left. (
         [],
-        is_taken ∙ ap (λ (l : List ℕ). Some l) (sym (append-nil had)),
+        none_added taken,
         record {
           calls = refl;
           in_order = ap (map call_of) nothing ∙ ap (λ (l : List Placed). take (length l) (calls_in (asked_in terms pass.session (lines_met asked)))) (sym nothing);

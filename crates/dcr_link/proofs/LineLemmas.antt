@@ -94,7 +94,7 @@ module _ {D : Type 0} (c : ClusterId) (first : Option (Store D)) (capacity : ℕ
 
     called : (before after : PassValue) (call : Call) (answer : Result Outcome Halt) (reply : List ℕ) (result : Result (Option Halt) NoRoom)
         → IfOk answer (λ outcome. (J : List Entry) × AnsweredAfter c first capacity J before after call outcome)
-        → IfErr answer (HaltedAfter c first capacity after.front before after)
+        → IfErr answer (λ halt. (J : List Entry) × HaltedAfter c first capacity J before after halt)
         → HasLaid terms after call answer reply result → HasReply c first capacity terms (Ok call) before after reply result
     called before after call (Ok outcome) reply (Ok None) answered halted laid = (
       entry_text terms.sites terms.atoms (length answered.0) (entry_of before call outcome),
@@ -105,14 +105,15 @@ module _ {D : Type 0} (c : ClusterId) (first : Option (Store D)) (capacity : ℕ
     called before after call (Ok outcome) reply (Err no_room) answered halted laid =
         (entry_text terms.sites terms.atoms (length answered.0) (entry_of before call outcome), (answered.0, outcome, answered.1, refl))
     called before after call (Err halt) reply (Ok None) answered halted laid = absurd laid
-    called before after call (Err halt) reply (Ok (Some told)) answered halted laid = subst (HaltedAfter c first capacity after.front before after) (sym laid) halted
+    called before after call (Err halt) reply (Ok (Some told)) answered halted laid =
+        subst (HaltedAfter c first capacity after.front before after) (sym laid) (subst (λ (J : List Entry). HaltedAfter c first capacity J before after halt) (sym halted.1.front) halted.1)
     called before after call (Err halt) reply (Err no_room) answered halted laid = absurd laid
 
     -- a call was made, and its reply laid ready
     pub replied : (asked : Asked) (before after : PassValue) (call : Call) (answer : Result Outcome Halt) (reply : List ℕ) (result : Result (Option Halt) NoRoom)
         → asked ≡ Ok call
         → IfOk answer (λ outcome. (J : List Entry) × AnsweredAfter c first capacity J before after call outcome)
-        → IfErr answer (HaltedAfter c first capacity after.front before after)
+        → IfErr answer (λ halt. (J : List Entry) × HaltedAfter c first capacity J before after halt)
         → HasLaid terms after call answer reply result → HasReply c first capacity terms asked before after reply result
     replied asked before after call answer reply result is answered halted laid =
         subst (λ (a : Asked). HasReply c first capacity terms a before after reply result) (sym is) (called before after call answer reply result answered halted laid)

@@ -148,8 +148,8 @@ module _ {D : Type 0} (c : ClusterId) (first : Option (Store D)) (capacity : ℕ
       front_more : (came ++ take used piece) ++ take n (drop used piece) ≡ came ++ take (used + n) piece
       front_more = append_assoc came (take used piece) (take n (drop used piece)) ∙ ap (λ (l : List ℕ). came ++ l) (sym (take_more_of piece used n))
 
-      pub still_more : cut ≡ More → StillGoing before pass next (came ++ take (used + n) piece) written had has
-      still_more is =
+      pub still_more : cut ≡ More → talk.lines < most_lines → StillGoing before pass next (came ++ take (used + n) piece) written had has
+      still_more is spare =
           let more : CutsNext talk (drop used piece) n More next = subst (λ (k : Cut). CutsNext talk (drop used piece) n k next) is cuts in
           let takes : TakesAll talk.cutter (drop used piece) n next.cutter = more.cuts in
           let whole : (came ++ take used piece) ++ drop used piece ≡ came ++ take (used + n) piece =
@@ -157,7 +157,7 @@ module _ {D : Type 0} (c : ClusterId) (first : Option (Store D)) (capacity : ℕ
             going.0,
             going.1,
             subst (λ (l : List ℕ). Going c first capacity terms before pass next l (written ++ going.0)) whole
-                (going_more c first capacity terms before pass talk next (drop used piece) (came ++ take used piece) (written ++ going.0) n going.2 more),
+                (going_more c first capacity terms before pass talk next (drop used piece) (came ++ take used piece) (written ++ going.0) n going.2 more spare),
           )
 
       module _ (is : cut ≡ Line) (spare : talk.lines < most_lines) (after : PassValue) (told : TalkValue) (then : Option (List ℕ)) (failed : Type 0) (result : Option WorkCause)

@@ -2,7 +2,7 @@
 use Rattle.std.proofs.Common.{◌≡◌, ◌≢◌, ◌⊎◌, ℕ, zero, suc, ◌+◌, ◌-◌, ◌<◌, ◌≤◌, true, false, eqb, List, [], ◌∷◌, ◌++◌, length, map, take, drop, codes, Some, Ok, Err, refl, sym, ap, subst, ◌∙◌, append_assoc, length-append, arith, inl, inr}
 use Rattle.std.specs.Prelude.{Option}
 use Rattle.std.specs.List.{take_while}
-use Rattle.std.proofs.lemmas.List.{append-nil, drop-append-le, length-map, map-append, take-append-drop, take-append-le, take_all}
+use Rattle.std.proofs.lemmas.List.{append-nil, drop-append-le, length-map, nil_from_length, map-append, take-append-drop, take-append-le, take_all}
 use Rattle.std.proofs.lemmas.Bool.{true≢false}
 use Rattle.std.proofs.lemmas.List.Elements.{All-append, All-nil, All-push}
 use Rattle.dcr_text.specs.declared.cutter.Cut.TheVariants.{More, Line, TooLong}
@@ -147,8 +147,9 @@ module _ {D : Type 0} (c : ClusterId) (first : Option (Store D)) (capacity : ℕ
   -- ---- what comes since the last line end
 
   pub going_more : (before pass : PassValue) (talk next : TalkValue) (piece came written : List ℕ) (used : ℕ)
-      → Going c first capacity terms before pass talk came written → CutsNext talk piece used More next → Going c first capacity terms before pass next (came ++ piece) written
-  going_more before pass talk next piece came written used going cut =
+      → Going c first capacity terms before pass talk came written → CutsNext talk piece used More next → talk.lines < most_lines
+      → Going c first capacity terms before pass next (came ++ piece) written
+  going_more before pass talk next piece came written used going cut spare =
       let takes : TakesAll talk.cutter piece used next.cutter = cut.cuts in
       let same_lines : next.lines ≡ talk.lines = ap (λ (t : TalkValue). t.lines) cut.same ∙ (let e : talk.lines + 0 ≡ talk.lines = omega arith in e) in
       let now : begun next.cutter ≡ begun talk.cutter ++ piece = ap begun takes.after_is in
@@ -162,6 +163,7 @@ module _ {D : Type 0} (c : ClusterId) (first : Option (Store D)) (capacity : ℕ
         short = going.short;
         not_long = ap (λ (k : Cutter). k.is_long) takes.after_is;
         begun_short = let l = cut.limit in let f = takes.fits in let n = ap length now in omega arith;
+        none_further = λ most. absurd (omega arith);
         session = going.session;
         not_fewer = going.not_fewer;
         made = going.made;
@@ -237,6 +239,7 @@ module _ {D : Type 0} (c : ClusterId) (first : Option (Store D)) (capacity : ℕ
           short = All-push (λ (l : List ℕ). is_short l ≡ true) going.lines line going.short line_short;
           not_long = ap (λ (k : Cutter). k.is_long) (same_cutter ∙ cuts.after_is);
           begun_short = let n = ap length empty in omega arith;
+          none_further = λ most. empty;
           session = g.session;
           not_fewer = g.not_fewer;
           made = g.made;
@@ -402,6 +405,14 @@ module _ {D : Type 0} (c : ClusterId) (first : Option (Store D)) (capacity : ℕ
         last_whole before pass pass talk came written going refl (piece ++ more) [] (is_met ∙ sym (append-nil going.lines)) failed ManyLines (codes "many-lines") sent refl refl is_sent,
       )
 
+  -- what stands behind the lines that came is what the cutter has begun
+  same_rest : (before pass : PassValue) (talk : TalkValue) (came written : List ℕ) (going : Going c first capacity terms before pass talk came written)
+      → lines_met (came ++ []) ≡ going.lines → (rest : List ℕ) → came ++ [] ≡ lines_text (lines_met (came ++ [])) ++ rest → length rest ≡ length (begun talk.cutter)
+  same_rest before pass talk came written going is_met rest whole =
+      let same : lines_text going.lines ++ rest ≡ lines_text going.lines ++ begun talk.cutter =
+      ap (λ (ls : List (List ℕ)). lines_text ls ++ rest) (sym is_met) ∙ sym whole ∙ append-nil came ∙ going.came_is in
+      let one = length-append (lines_text going.lines) rest in let other = length-append (lines_text going.lines) (begun talk.cutter) in let many = ap length same in omega arith
+
   -- the input has ended
   pub ends_input : (before pass : PassValue) (talk : TalkValue) (came written : List ℕ) (failed : Type 0)
       → Going c first capacity terms before pass talk came written
@@ -420,6 +431,11 @@ module _ {D : Type 0} (c : ClusterId) (first : Option (Store D)) (capacity : ℕ
         is_met ∙ sym all,
         all_made before pass pass talk came written going refl [] is_met,
         sym (replies_are before pass pass talk came written going refl [] [] (is_met ∙ sym (append-nil going.lines)) Ended ∙ append-nil written),
+        λ long. let rest = same_rest before pass talk came written going is_met long.rest long.whole in let short = going.begun_short in let more = long.long in absurd (omega arith),
+        λ many.
+            let rest = same_rest before pass talk came written going is_met many.rest many.whole in
+            let all_lines : talk.lines ≡ most_lines = sym going.as_many ∙ ap length (sym is_met) ∙ many.most in
+            absurd (many.further (nil_from_length many.rest (rest ∙ ap length (going.none_further all_lines)))),
       ))
 
   -- a read has failed

@@ -1,5 +1,6 @@
 -- How a session over a link ends.
 use Rattle.std.specs.Prelude.{◌≡◌, ◌≢◌, ◌⊎◌, ℕ, ◌+◌, ◌<◌, List, [], ◌++◌, length, map, take, Option, Some, ⊤}
+use Rattle.std.specs.Io.KnownBytes.{Appends}
 use Rattle.dcr_base.specs.Count.{Rose}
 use Rattle.dcr_text.specs.Cutting.{HasNoEnd}
 use Rattle.dcr_journal.specs.declared.call.Call.{Call}
@@ -41,9 +42,10 @@ module _ {D : Type 0} (first : Option (Store D)) (capacity : ℕ) (terms : Terms
   abbrev pub AllWritten : WorkCause → Type 0
   AllWritten cause = written ≡ replies terms before.session asked (made_since before after) cause
 
-  -- What each cause says, where `failed` says that a count of the link rose.
+  -- What each cause says, where `failed` says that a count of the link rose. A session that has ended with its input had neither
+  -- too many bytes without a line end nor a further byte.
   abbrev pub EndsBy : Type 0 → WorkCause → Type 0
-  EndsBy failed Ended = (lines_met asked ≡ whole_lines asked) × AllMade × AllWritten Ended
+  EndsBy failed Ended = (lines_met asked ≡ whole_lines asked) × AllMade × AllWritten Ended × (HasLongLine asked → ⊥) × (HasManyLines asked → ⊥)
   EndsBy failed LinkFault = failed
   EndsBy failed LongLine = HasLongLine asked × AllMade × (AllWritten LongLine ⊎ failed)
   EndsBy failed ManyLines = HasManyLines asked × AllMade × (AllWritten ManyLines ⊎ failed)
@@ -59,12 +61,11 @@ module _ {D : Type 0} (first : Option (Store D)) (capacity : ℕ) (terms : Terms
     pub replied : written ++ rest ≡ replies terms before.session asked (made_since before after) end.cause
     pub ends : EndsBy failed end.cause
 
--- The same over a link that tells its bytes, those left and those taken, at the begin and at the end, and the counts of its
--- faults.
+-- The same over a link that tells the bytes that it had left: of what it had taken, where it tells that, what was written is
+-- what came behind.
 abbrev pub Serves : {D : Type 0} → Option (Store D) → ℕ → Terms → PassValue → PassValue → Option (List ℕ) → Option (List ℕ) → Option (List ℕ) → Type 0 → WorkEnd → Type 0
 Serves first capacity terms before after left taken now_taken failed end =
-    (asked had : List ℕ) → left ≡ Some asked → taken ≡ Some had
-    → (written : List ℕ) × (now_taken ≡ Some (had ++ written)) × Served first capacity terms asked before after written failed end
+    (asked : List ℕ) → left ≡ Some asked → (written : List ℕ) × Appends taken now_taken written × Served first capacity terms asked before after written failed end
 
 -- a count of the link rose
 abbrev pub AnyRose : ℕ → ℕ → ℕ → ℕ → Type 0

@@ -94,6 +94,7 @@ module _ {D : Type 0} (c : ClusterId) (first : Option (Store D)) (capacity : ℕ
     pub short : All (λ line. is_short line ≡ true) lines
     pub not_long : talk.cutter.is_long ≡ false
     pub begun_short : length (begun talk.cutter) ≤ most_bytes
+    pub none_further : talk.lines ≡ most_lines → begun talk.cutter ≡ []
     pub session : now.session ≡ before.session
     pub not_fewer : before.made ≤ length (placed_of before.session now.front)
     pub made : now.made ≡ before.made + length (made_since before now)

@@ -1,5 +1,5 @@
 // What a line is answered.
-ghost use Rattle.std.specs.Prelude.{◌≡◌, ◌≤◌, ◌++◌, true, length, List, ℕ, None, IfSome, OnOk};
+ghost use Rattle.std.specs.Prelude.{◌≡◌, ◌≤◌, ◌++◌, true, length, List, ℕ, Some, None, IfSome, OnOk};
 ghost use Rattle.std.specs.Io.KnownBytes.{Appends};
 ghost use Rattle.dcr_base.specs.Count.{Rose};
 ghost use Rattle.dcr_text.specs.Cutting.{without_return};
@@ -42,6 +42,7 @@ impl<'n> Talk<'n> {
             (Rose (L.write_faults link.old) (L.write_faults link.new)) result }
         ensures apart { L.source_side link.new ≡ L.source_side link.old }
         ensures no_fault { result ≡ None → L.write_faults link.new ≡ L.write_faults link.old }
+        ensures unwritten { result ≡ Some WorkCause.NoMemory → L.write_faults link.new ≡ L.write_faults link.old }
         ensures never_falls { L.write_faults link.old ≤ L.write_faults link.new }
     {
         match self.reply_to(rt, cluster, pass) {

@@ -1,4 +1,4 @@
-ghost use Rattle.std.specs.Prelude.{◌≡◌, ◌≢◌, ◌+◌, ◌<◌, ◌≤◌, ◌++◌, ℕ, List, [], false, length, Some, None, IsSome, IsTrue, IsFalse, IfOk};
+ghost use Rattle.std.specs.Prelude.{◌≡◌, ◌≢◌, ◌⊎◌, ◌+◌, ◌<◌, ◌≤◌, ◌++◌, ℕ, List, [], false, length, Some, None, IsSome, IsTrue, IsFalse, IfOk};
 ghost use Rattle.std.specs.Io.KnownBytes.{Appends};
 ghost use Rattle.dcr_base.specs.Count.{Rose};
 ghost use Rattle.dcr_journal.specs.Run.{made_by};
@@ -101,6 +101,8 @@ impl<'n> Talk<'n> {
         ensures ended { result ≡ Ended → L.has_ended link.new }
         ensures fault { result ≡ LinkFault
             → AnyRose (L.read_faults link.old) (L.read_faults link.new) (L.write_faults link.old) (L.write_faults link.new) }
+        ensures no_read_fault { result ≢ LinkFault → L.read_faults link.new ≡ L.read_faults link.old }
+        ensures no_write_fault { (result ≡ Ended) ⊎ (result ≡ WorkCause.NoMemory) → L.write_faults link.new ≡ L.write_faults link.old }
         ensures halted { (halt : _) → result ≡ Halted halt → Shows N.first N.capacity pass.new.front halt }
         ensures told { IsSome (L.left link.old) → IsSome (L.left link.new) }
         ensures reads_never_fall { L.read_faults link.old ≤ L.read_faults link.new }
@@ -143,6 +145,7 @@ impl<'n> Talk<'n> {
         ensures halted { (halt : _) → result ≡ Some (Halted halt) → Shows N.first N.capacity pass.new.front halt }
         ensures apart { L.source_side link.new ≡ L.source_side link.old }
         ensures no_fault { result ≡ None → L.write_faults link.new ≡ L.write_faults link.old }
+        ensures unwritten { result ≡ Some WorkCause.NoMemory → L.write_faults link.new ≡ L.write_faults link.old }
         ensures never_falls { L.write_faults link.old ≤ L.write_faults link.new }
     {
         let mut used = 0;

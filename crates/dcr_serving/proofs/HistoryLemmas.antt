@@ -81,7 +81,7 @@ module _ {D : Type 0} (first : Option (Store D)) (capacity : ℕ) (terms : Terms
   said_or cause (inr fault) = inr fault
 
   ends_in : (cause : WorkCause) → EndsBy first capacity terms asked before pass written failed cause → EndsBy first capacity terms asked before after written failed cause
-  ends_in Ended ends = (ends.0, many _ ends.1, said Ended written ends.2)
+  ends_in Ended ends = (ends.0, many _ ends.1, said Ended written ends.2, ends.3, ends.4)
   ends_in LinkFault ends = ends
   ends_in LongLine ends = (ends.0, many _ ends.1, said_or LongLine ends.2)
   ends_in ManyLines ends = (ends.0, many _ ends.1, said_or ManyLines ends.2)
@@ -109,11 +109,13 @@ session_in tells G C M first capacity terms links pass end H all legal few over 
       session = over.session;
       served = record {
         calls = over.served.calls ∙ all.made;
-        serves = λ asked had is_left is_taken.
-            let told = over.served.serves asked had is_left is_taken in
+        serves = λ asked is_left.
+            let told = over.served.serves asked is_left in
             (told.0, told.1, served_in first capacity terms asked pass H told.0 (HasFailed tells end.rest) all shows end.end told.2);
         ended = over.served.ended;
         fault = over.served.fault;
+        no_read_fault = over.served.no_read_fault;
+        no_write_fault = over.served.no_write_fault;
         halted = λ halt is. shows halt (over.served.halted halt is);
         told = over.served.told;
       };

@@ -40,6 +40,9 @@ module _ {D L R : Type 0} (tells : Tells L R) (first : Option (Store D)) (capaci
     pub serves : Serves first capacity terms (new_pass pass.session) pass (tells.left link) (tells.taken link) (tells.sent rest) (HasFailed tells rest) end
     pub ended : end.cause ≡ Ended → IsAtEnd (tells.unread rest)
     pub fault : end.cause ≡ LinkFault → HasFailed tells rest
+    -- no read that failed was passed over, and no write but that of last words
+    pub no_read_fault : end.cause ≢ LinkFault → tells.failed_reads rest ≡ 0
+    pub no_write_fault : (end.cause ≡ Ended) ⊎ (end.cause ≡ NoMemory) → tells.failed_writes rest ≡ 0
     pub halted : (halt : Halt) → end.cause ≡ Halted halt → Shows first capacity pass.front halt
     pub told : IsSome (tells.left link) → IsSome (tells.unread rest)
 

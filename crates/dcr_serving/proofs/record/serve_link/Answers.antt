@@ -1,4 +1,4 @@
-use Rattle.std.proofs.Common.{◌≡◌, ℕ, List, ap, subst, sym}
+use Rattle.std.proofs.Common.{◌≡◌, ℕ, List, ap, subst, sym, ◌∙◌}
 use Rattle.std.specs.Prelude.{Option, IsSome}
 use Rattle.std.specs.Io.KnownBytes.{IsAtEnd}
 use Rattle.dcr_turn.specs.PassValue.{PassValue}
@@ -19,6 +19,8 @@ returns-clause-served g c =
       ended = λ is. subst IsAtEnd (sym c.finish.ensures.unread) (g.met.L.Source.ended_has_none c.serve_session-end.new.link (c.serve_session-end.ensures.ended is));
       fault = λ is.
           rose_from_none _ _ _ _ _ _ c.requires.fresh.0 c.requires.fresh.1 c.finish.ensures.failed_reads c.finish.ensures.failed_writes (c.serve_session-end.ensures.fault is);
+      no_read_fault = λ other. c.finish.ensures.failed_reads ∙ c.serve_session-end.ensures.no_read_fault other ∙ c.requires.fresh.0;
+      no_write_fault = λ which. c.finish.ensures.failed_writes ∙ c.serve_session-end.ensures.no_write_fault which ∙ c.requires.fresh.1;
       halted = c.serve_session-end.ensures.halted;
       told = λ some. subst (λ (o : Option (List ℕ)). IsSome o) (sym c.finish.ensures.unread) (c.serve_session-end.ensures.told some);
     }

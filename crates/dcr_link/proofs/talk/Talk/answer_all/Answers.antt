@@ -35,7 +35,7 @@ loop-used-preserved-in-More g c =
       no_fewer = before.no_fewer;
       going = λ from came written going. still_more g.N.ClusterName.cluster g.N.StoreName.first g.N.TurnName.capacity c.args.self.now.terms from c.loop-used.pass c.loop-used.self
           c.args.piece.now came written (g.L.Sink.taken c.args.link.now) (g.L.Sink.taken c.loop-used.link) c.loop-used.used c.cut-more.result.0 c.cut-more.result.1 c.cut-more.new.self
-          (before.going from came written going) cuts c.in-More.is;
+          (before.going from came written going) cuts c.in-More.is (c.if-is_full.ensures.spare refl);
       spare = spare_then (bytes_spare c.args.self.now) (bytes_spare c.loop-used.self) (bytes_spare c.cut-more.new.self) c.loop-used.used c.cut-more.result.0 before.spare
           (spare_more c.loop-used.self c.cut-more.new.self (drop c.loop-used.used c.args.piece.now) c.cut-more.result.0 (subst (λ (k : Cut). CutsNext c.loop-used.self (drop c.loop-used.used c.args.piece.now) c.cut-more.result.0 k c.cut-more.new.self) c.in-More.is cuts));
       apart = before.apart;
