@@ -3,6 +3,7 @@ mod OutsideLemmas
 mod DueLemmas
 mod TapeLemmas
 mod RunLemmas
+mod HeadlineLemmas
 mod LinksLemmas
 mod OverLemmas
 mod LoadLemmas

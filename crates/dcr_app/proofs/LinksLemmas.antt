@@ -79,6 +79,7 @@ module _ {D B L R : Type 0} (doors : Doors B L R) (first : Store D) (terms : Ter
     left = door.left;
     all = all;
     by_links = λ done. by_each done;
+    unfailed = λ done. door.unfailed (unfailed done);
     never_falls = door.never_falls;
   }
     where
@@ -150,6 +151,11 @@ pub no_fewer_by : {B L R : Type 0} (doors : Doors B L R) (sessions : ℕ) (told_
     → doors.faults before ≤ doors.faults after
 no_fewer_by doors sessions (Some closed) before after ends status it = it.never_falls
 no_fewer_by doors sessions None before after ends status it = let same : doors.faults after ≡ doors.faults before = ap doors.faults it.0 in omega (arith, same)
+
+pub unfailed_by : {B L R : Type 0} (doors : Doors B L R) (sessions : ℕ) (told_run : Option Closed) (before after : B) (ends : List (LinkEnd L R)) (status : Status) → LeavesWith doors sessions told_run before after ends status
+    → status ≡ Done → doors.faults after ≡ doors.faults before
+unfailed_by doors sessions (Some closed) before after ends status it done = it.unfailed done
+unfailed_by doors sessions None before after ends status it done = ap doors.faults it.0
 
 pub left_by : {B L R : Type 0} (doors : Doors B L R) (sessions : ℕ) (told_run : Option Closed) (before after : B) (ends : List (LinkEnd L R)) (status : Status) → LeavesWith doors sessions told_run before after ends status
     → IfSome told_run (λ closed. LeavesDoor doors before after sessions ends status)

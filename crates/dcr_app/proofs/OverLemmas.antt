@@ -31,11 +31,11 @@ use Rattle.dcr_roles.specs.Laws.{AcceptedAreTheFormats}
 use Rattle.dcr_app.specs.Answers.{AnswersCase, TellsNone, is_silent, has_failed, is_tape_refused}
 use Rattle.dcr_app.specs.Headline.{cluster_in, digest_of}
 use Rattle.dcr_app.specs.Outside.{IsSilent, Wrote}
-use Rattle.dcr_app.specs.Stored.{EndsFor, EndsOver, HasKept, RanOver, StandsStill, by_bytes, by_execution, disk_in, tape_cause, tape_line}
+use Rattle.dcr_app.specs.Stored.{EndsFor, EndsOver, HasKept, KeepsContent, RanOver, StandsStill, StaysSettled, by_bytes, by_execution, disk_in, tape_cause, tape_line}
 use Rattle.dcr_app.specs.Telling.{IsDueBy, Telling, all_done, disk_failed, door_failed, is_full}
 use Rattle.dcr_app.proofs.OutsideLemmas.{wrote_at}
 use Rattle.dcr_app.proofs.RunLemmas.{case_of_both, tells_run}
-use Rattle.dcr_app.proofs.TapeLemmas.{either_way, has_kept, none_made, still_opened, still_refused, still_then, stood, stood_for}
+use Rattle.dcr_app.proofs.TapeLemmas.{content_opened, either_way, has_kept, honest_now, making_opened, making_refused, making_then, none_made, still_opened, still_refused, still_then, stood, stood_for}
 
 -- ---- statuses
 
@@ -182,6 +182,29 @@ module _ {D : Type 0} (view : D → DiskView) (faults : D → ℕ) (telling : Te
   on_still (Some closed) it none = absurd cc
   on_still None it none = subst (λ d. StandsStill view before d) (sym it.same) (still_for it.cause it.last it.refused.leaves)
 
+  settled_for : (why : OpenCause) (last : Store D) → Leaves view faults old why (On tape) last → EndsFor (tape_cause why) status had took → StaysSettled view before (disk_in last) status
+  settled_for opening.NoMemory (On now) leaves ends = record {
+    steady = λ other steady. leaves.2 (honest_now view faults one before tape digest old long opened steady.honest);
+    empty = making_then view faults one before tape digest old long opened now.disk leaves.0;
+  }
+  settled_for opening.NoMemory (Off disk) leaves ends = absurd cc
+  settled_for opening.DiskFault (On now) leaves ends = record {
+    steady = λ other steady. absurd (other ends.0);
+    empty = making_then view faults one before tape digest old long opened now.disk leaves.0;
+  }
+  settled_for opening.DiskFault (Off disk) leaves ends = elim leaves [ ]
+  settled_for (opening.BadTape at) last leaves ends = subst (λ s. StaysSettled view before (disk_in s) status) (sym leaves) (record {
+    steady = λ other steady. opened.steady steady.honest;
+    empty = making_opened view faults one before tape digest old long opened;
+  })
+
+  pub on_content : (bytes : List ℕ) → case_accepted bytes ≡ Ok case → IsTrue (view before).told → KeepsContent (Some bytes) (view before) (view end)
+  on_content bytes spelled told = content_opened view faults one before tape digest old long opened bytes case spelled refl told end
+
+  pub on_settled : (told_run : Option Closed) → EndsOver view faults telling case policy old (On tape) end had took status told_run → told_run ≡ None → StaysSettled view before end status
+  on_settled (Some closed) it none = absurd cc
+  on_settled None it none = subst (λ d. StaysSettled view before d status) (sym it.same) (settled_for it.cause it.last it.refused.leaves it.ends)
+
   -- the count of faults
   failed_open : (why : OpenCause) (last : Store D) → Leaves view faults old why (On tape) last → tape_cause why ≡ cause.DiskFault → Rose (faults before) (faults (disk_in last))
   failed_open opening.DiskFault (On now) leaves is = subst (λ n. Rose n (faults now.disk)) same_faults leaves.2
@@ -210,6 +233,19 @@ module _ {D : Type 0} (view : D → DiskView) (faults : D → ℕ) (telling : Te
   pub on_no_fewer : (told_run : Option Closed) → EndsOver view faults telling case policy old (On tape) end had took status told_run → faults before ≤ faults end
   on_no_fewer (Some closed) it = no_fewer_ran closed.history.entries (either_way it.report.0 it.report.1) (kept_by closed it)
   on_no_fewer None it = subst (λ d. faults before ≤ faults d) (sym it.same) (no_fewer_open it.cause it.last it.refused.leaves)
+
+  -- where no run is told, it stands but for a disk that is told as failed
+  told_open : (why : OpenCause) (last : Store D) → Leaves view faults old why (On tape) last → EndsFor (tape_cause why) status had took → status ≢ DiskFault
+      → faults (disk_in last) ≡ faults before
+  told_open opening.DiskFault last leaves ends other = absurd (other ends.0)
+  told_open opening.NoMemory (On now) leaves ends other = leaves.1 ∙ same_faults
+  told_open opening.NoMemory (Off disk) leaves ends other = absurd cc
+  told_open (opening.BadTape at) last leaves ends other = ap (λ s. faults (disk_in s)) leaves ∙ same_faults
+
+  pub on_told : (told_run : Option Closed) → EndsOver view faults telling case policy old (On tape) end had took status told_run → told_run ≡ None → status ≢ DiskFault
+      → faults end ≡ faults before
+  on_told (Some closed) it none other = absurd cc
+  on_told None it none other = ap faults it.same ∙ told_open it.cause it.last it.refused.leaves it.ends other
 
 -- ---- a disk that was not opened as a tape
 
@@ -252,6 +288,12 @@ module _ {D : Type 0} (view : D → DiskView) (faults : D → ℕ) (telling : Te
   pub unopened_still : StandsStill view before end
   unopened_still = still_refused view before end (digest_of case) why refused
 
+  pub unopened_settled : StaysSettled view before end status
+  unopened_settled = record {
+    steady = λ other steady. refused.steady (λ is. other ((subst (λ c. EndsFor c status had took) is ends).0)) steady;
+    empty = making_refused view before end (digest_of case) why refused;
+  }
+
   pub unopened_counted : status ≡ DiskFault → Rose (faults before) (faults end)
   unopened_counted is = (subst (λ c. CountsFaultOf c (faults before) (faults end)) (failed_for why status had took ends is) counts).1
 
@@ -265,3 +307,14 @@ module _ {D : Type 0} (view : D → DiskView) (faults : D → ℕ) (telling : Te
 
   pub unopened_no_fewer : faults before ≤ faults end
   unopened_no_fewer = no_fewer_for why counts
+
+  told_for : (cause : TapeCause) → CountsFaultOf cause (faults before) (faults end) → EndsFor cause status had took → status ≢ DiskFault → faults end ≡ faults before
+  told_for cause.DiskFault counted ends' other = absurd (other ends'.0)
+  told_for cause.NoMemory same ends' other = same
+  told_for cause.NotTape same ends' other = same
+  told_for (cause.OtherGraph found) same ends' other = same
+  told_for (cause.BadTape at) same ends' other = same
+  told_for cause.Long same ends' other = same
+
+  pub unopened_told : status ≢ DiskFault → faults end ≡ faults before
+  unopened_told other = told_for why counts ends other

@@ -1,5 +1,5 @@
 -- What a run over a tape, or a refusal of one, leaves on the disk.
-use Rattle.std.proofs.Common.{◌≡◌, ◌≢◌, ◌⊎◌, inl, inr, ℕ, ◌≤◌, ◌+◌, IsTrue, List, [], ◌∷◌, ◌++◌, length, take, refl, sym, ap, subst, ◌∙◌, arith}
+use Rattle.std.proofs.Common.{◌≡◌, ◌≢◌, ◌⊎◌, inl, inr, ℕ, ◌≤◌, ◌+◌, IsTrue, List, [], ◌∷◌, ◌++◌, length, take, Option, Some, None, Ok, IfSome, refl, sym, ap, subst, ◌∙◌, arith}
 use Rattle.std.proofs.lemmas.List.{append_assoc, take-append-le, take_all}
 use Rattle.dcr_base.specs.Count.{Rose}
 use Rattle.dcr_base.specs.Disk.{DiskView, IsSteady, LeavesOnly}
@@ -8,7 +8,7 @@ use Rattle.dcr_journal.specs.Run.{HasNoFault}
 use Rattle.dcr_journal.specs.declared.call.Entry.{Entry}
 use Rattle.dcr_tape.specs.Kept.{part_of}
 use Rattle.dcr_tape.specs.Laws.{OneList}
-use Rattle.dcr_tape.specs.Opening.{Opened, Refused as NotOpened}
+use Rattle.dcr_tape.specs.Opening.{IsUnmade, Opened, Refused as NotOpened}
 use Rattle.dcr_tape.specs.Tape.{Holds, Part, StandsFor, part_bytes}
 use Rattle.dcr_base.specs.declared.status.Status.{Status}
 use Rattle.dcr_tape.specs.declared.cause.TapeCause.{TapeCause}
@@ -16,8 +16,10 @@ use Rattle.dcr_tape.specs.declared.entry.TapeEntry.{TapeEntry}
 use Rattle.dcr_tape.specs.declared.tape.Tape.{Tape}
 use Rattle.dcr_tape.proofs.OpenLemmas.{made_holds}
 use Rattle.dcr_cell.specs.Stored.{StandsForSome, TapeStands, executions, failed_executions, kept_for, tried_for}
-use Rattle.dcr_app.specs.Headline.{StoodFor}
-use Rattle.dcr_app.specs.Stored.{HasKept, StandsStill}
+use Rattle.dcr_json.specs.Judged.{Spelled}
+use Rattle.dcr_roles.specs.Accepted.{case_accepted}
+use Rattle.dcr_app.specs.Headline.{StoodFor, digest_of}
+use Rattle.dcr_app.specs.Stored.{HasKept, IsMaking, KeepsContent, StandsStill, StaysSettled, as_it_was, was_empty, was_its_tape}
 use Rattle.dcr_app.specs.Telling.{IsDueBy, all_done, disk_failed, door_failed, is_full}
 
 -- ---- contents
@@ -42,6 +44,23 @@ still_same view before after same =
     subst (λ d. StandsStill view before d) (sym same)
     (λ digest old steady stands. started (view before) (StandsFor digest old) (λ c left. subst (StandsFor digest old) (sym (steady.only c left)) stands))
 
+pub settled_same : {D : Type 0} (view : D → DiskView) (before after : D) (status : Status) → after ≡ before → StaysSettled view before after status
+settled_same view before after status same = subst (λ d. StaysSettled view before d status) (sym same) (record {
+  steady = λ other steady. steady;
+  empty = λ steady none. started (view before) IsMaking (λ c left. inl (let many = ap length (steady.only c left ∙ none) in omega arith));
+})
+
+pub content_same : {D : Type 0} (view : D → DiskView) (left : Option (List ℕ)) (before after : D) → after ≡ before → IsTrue (view before).told → KeepsContent left (view before) (view after)
+content_same view left before after same told =
+    as_it_was (subst (λ d. IsTrue (view d).told) (sym same) told) (ap (λ d. (view d).content) same)
+
+-- what is said of bytes holds of the input that had them left
+pub content_left : (left : Option (List ℕ)) (bytes : List ℕ) (before after : DiskView) → IfSome left (λ it. bytes ≡ it) → KeepsContent (Some bytes) before after → KeepsContent left before after
+content_left left bytes before after all (as_it_was told same) = as_it_was told same
+content_left left bytes before after all (was_empty none) = was_empty none
+content_left (Some it) bytes before after all (was_its_tape found read case spelled old stands) = was_its_tape found (sym all ∙ read) case spelled old stands
+content_left None bytes before after all (was_its_tape found read case spelled old stands) = was_its_tape found tt case spelled old stands
+
 -- ---- a tape that was opened
 
 module _ {D : Type 0} (view : D → DiskView) (faults : D → ℕ) (one : OneList) (before : D) (tape : Tape D) (digest : List ℕ) (old : List TapeEntry) (long : length digest ≡ 32)
@@ -49,7 +68,7 @@ module _ {D : Type 0} (view : D → DiskView) (faults : D → ℕ) (one : OneLis
   same_case : tape.digest ≡ digest
   same_case = opened.same_case
 
-  honest_now : IsTrue (view before).honest → IsTrue (view tape.disk).honest
+  pub honest_now : IsTrue (view before).honest → IsTrue (view tape.disk).honest
   honest_now honest = (opened.steady honest).honest
 
   none_by : (part : Part) → Holds (part_bytes digest []) part [] → opened.before ≡ [] → old ≡ []
@@ -102,6 +121,29 @@ module _ {D : Type 0} (view : D → DiskView) (faults : D → ℕ) (one : OneLis
       (weaker (view tape.disk) (view after) (StandsFor tape.digest old) (StandsFor digest' old')
       (λ c here. subst (λ d. StandsFor d old' c) (same_case ∙ same.0) (subst (λ l. StandsFor tape.digest l c) same.1 here)) (then (honest_now steady.honest)))
 
+  pub content_opened : (bytes : List ℕ) (case : Spelled) → case_accepted bytes ≡ Ok case → digest_of case ≡ digest → IsTrue (view before).told → (after : D)
+      → KeepsContent (Some bytes) (view before) (view after)
+  content_opened bytes case spelled named told after = by_before opened.before refl
+    where
+      by_before : (content : List ℕ) → opened.before ≡ content → KeepsContent (Some bytes) (view before) (view after)
+      by_before [] is = was_empty (opened.was told ∙ is)
+      by_before (b ∷ bs) is = was_its_tape bytes refl case spelled old
+          (subst (λ d. StandsFor d old (view before).content) (sym named) (subst (StandsFor digest old) (sym (opened.was told)) (stood (λ empty. let wrong = sym is ∙ empty in cc))))
+
+  -- where it was made, a crash meanwhile left at most its bytes
+  few_opened : IsSteady (view before) → (view before).content ≡ [] → LeavesOnly (view before) (view tape.disk) IsUnmade
+  few_opened steady none = opened.making steady (sym (opened.was ((view before).honest_tells steady.honest)) ∙ none)
+
+  pub making_opened : IsSteady (view before) → (view before).content ≡ [] → LeavesOnly (view before) (view tape.disk) IsMaking
+  making_opened steady none = weaker (view before) (view tape.disk) IsUnmade IsMaking (λ c few. inl few) (few_opened steady none)
+
+  pub making_then : (after : D) → (IsTrue (view tape.disk).honest → LeavesOnly (view tape.disk) (view after) (StandsFor tape.digest old)) → IsSteady (view before) → (view before).content ≡ []
+      → LeavesOnly (view before) (view after) IsMaking
+  making_then after then steady none =
+      let nothing : old ≡ [] = none_made (sym (opened.was ((view before).honest_tells steady.honest)) ∙ none) in
+      joined (view before) (view tape.disk) (view after) IsMaking (making_opened steady none)
+      (weaker (view tape.disk) (view after) (StandsFor tape.digest old) IsMaking (λ c here. inr (tape.digest, subst (λ l. StandsFor tape.digest l c) nothing here)) (then (honest_now steady.honest)))
+
   -- a run over it
   module _ (J : List Entry) (last : Tape D) (stands : TapeStands view faults tape old J last) (same_faults : faults tape.disk ≡ faults before) where
     of_case : last.digest ≡ digest
@@ -136,11 +178,21 @@ module _ {D : Type 0} (view : D → DiskView) (faults : D → ℕ) (one : OneLis
         (left_opening digest old steady here))
         (subst (λ d. LeavesOnly (view tape.disk) (view last.disk) (StandsForSome d old (tried_for old J))) same_case (stands.any_moment (honest_now steady.honest)))
 
+    first_after : IsSteady (view before) → (view before).content ≡ []
+        → LeavesOnly (view before) (view last.disk) (λ content. IsUnmade content ⊎ StandsForSome digest old (tried_for old J) content)
+    first_after steady none =
+        joined (view before) (view tape.disk) (view last.disk) (λ content. IsUnmade content ⊎ StandsForSome digest old (tried_for old J) content)
+        (weaker (view before) (view tape.disk) IsUnmade (λ content. IsUnmade content ⊎ StandsForSome digest old (tried_for old J) content) (λ c few. inl few) (few_opened steady none))
+        (weaker (view tape.disk) (view last.disk) (StandsForSome digest old (tried_for old J)) (λ content. IsUnmade content ⊎ StandsForSome digest old (tried_for old J) content) (λ c some. inr some)
+        (subst (λ d. LeavesOnly (view tape.disk) (view last.disk) (StandsForSome d old (tried_for old J))) same_case (stands.any_moment (honest_now steady.honest))))
+
     pub has_kept : HasNoFault J ⊎ (¬ HasNoFault J) → HasKept view faults digest old J before last.disk
     has_kept either = record {
       stands = stands_after;
       leaves = leaves_after either;
       any_moment = moment_after;
+      first_moment = first_after;
+      steady = λ none steady. (stands.goes_on none).steady (honest_now steady.honest);
       no_fault = λ none. (stands.goes_on none).no_fault ∙ same_faults;
       failed = λ some. let stopped = stands.has_stopped some in
           (subst (λ n. n ≤ faults last.disk) same_faults stopped.no_fewer, subst (λ n. Rose n (faults last.disk)) same_faults stopped.rose);
@@ -156,6 +208,18 @@ either_way due (all_done none room is) = inl none
 -- ---- a disk that was not opened as a tape
 
 module _ {D : Type 0} (view : D → DiskView) (before after : D) (digest : List ℕ) (cause : TapeCause) (refused : NotOpened (view before) (view after) digest cause) where
+  pub content_refused : (left : Option (List ℕ)) → IsTrue (view before).told → KeepsContent left (view before) (view after)
+  content_refused left told = by_before refused.before refl
+    where
+      by_before : (content : List ℕ) → refused.before ≡ content → KeepsContent left (view before) (view after)
+      by_before [] is = was_empty (refused.was told ∙ is)
+      by_before (b ∷ bs) is =
+          let kept = refused.kept (λ empty. let wrong = sym is ∙ empty in cc) told in as_it_was kept.0 (kept.1 ∙ sym (refused.was told))
+
+  pub making_refused : IsSteady (view before) → (view before).content ≡ [] → LeavesOnly (view before) (view after) IsMaking
+  making_refused steady none =
+      weaker (view before) (view after) IsUnmade IsMaking (λ c few. inl few) (refused.making steady (sym (refused.was ((view before).honest_tells steady.honest)) ∙ none))
+
   pub still_refused : StandsStill view before after
   still_refused digest' old' steady stands =
       let told = (view before).honest_tells steady.honest in

@@ -264,6 +264,14 @@ Answers view faults doors (Some (Nodes number)) door before left has_ended had t
 Answers view faults doors (Some Conform) door before left has_ended had took end = (end.closed ≡ None) × AnswersLog left has_ended had took end.status
 Answers view faults doors (Some Adapt) door before left has_ended had took end = AnswersStages left has_ended had took end.status end.closed
 
+-- A run of a case that `run` or `serve` tells is the headline's (`TellsRun`), whatever the status.
+abbrev pub IsHeadline : {D B L R : Type 0} → (D → DiskView) → (D → ℕ) → Doors B L R → Option Command → B → D → Option (List ℕ) → Type 0 → Option (List ℕ) → Option (List ℕ) → End B D L R → Type 0
+IsHeadline view faults doors (Some (Run workers store)) door before left has_ended had took end =
+    IfSome end.closed (λ closed. TellsRun view faults (by_workers workers) store before end.disk left has_ended had took end.status closed)
+IsHeadline view faults doors (Some (Serve sessions workers store)) door before left has_ended had took end =
+    IfSome end.closed (λ closed. TellsRun view faults (over_links doors door end.door sessions end.ends.items) store before end.disk left has_ended had took end.status closed)
+IsHeadline view faults doors command door before left has_ended had took end = Unit {0}
+
 -- the line that was written says why the bytes that were read are not accepted
 abbrev pub RefusesCase : Option (List ℕ) → Option (List ℕ) → Option (List ℕ) → Type 0
 RefusesCase left had took = (bytes : List ℕ) × WereLeft left bytes

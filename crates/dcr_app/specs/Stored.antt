@@ -1,5 +1,5 @@
 -- What is left on the disk, and why one is refused as the tape of a case.
-use Rattle.std.specs.Prelude.{◌≡◌, ◌⊎◌, ℕ, ◌≤◌, Bool, true, false, IsTrue, List, [], ◌++◌, length, codes, decimal, Option, Some, None}
+use Rattle.std.specs.Prelude.{◌≡◌, ◌≢◌, ◌⊎◌, ℕ, ◌≤◌, Bool, true, false, IsTrue, List, [], ◌++◌, length, codes, decimal, Option, Some, None, Ok}
 use Rattle.std.specs.Io.KnownBytes.{Appends}
 use Rattle.dcr_base.specs.Count.{Rose}
 use Rattle.dcr_base.specs.Disk.{DiskView, IsSteady, LeavesOnly}
@@ -8,7 +8,7 @@ use Rattle.dcr_base.specs.declared.status.Status.TheVariants as named
 use Rattle.dcr_journal.specs.Run.{HasNoFault}
 use Rattle.dcr_journal.specs.declared.call.Entry.{Entry}
 use Rattle.dcr_journal.specs.declared.closed.Closed.{Closed}
-use Rattle.dcr_tape.specs.Opening.{IsCause, IsShown, most_records}
+use Rattle.dcr_tape.specs.Opening.{IsCause, IsShown, IsUnmade, most_records}
 use Rattle.dcr_tape.specs.Tape.{StandsFor}
 use Rattle.dcr_tape.specs.declared.cause.TapeCause.{TapeCause}
 use Rattle.dcr_tape.specs.declared.cause.TapeCause.TheVariants.{NotTape, OtherGraph, BadTape, Long, DiskFault, NoMemory}
@@ -23,8 +23,9 @@ use Rattle.dcr_engine.specs.Ran.{IsWhole}
 use Rattle.dcr_json.specs.Judged.{Spelled}
 use Rattle.dcr_policy.specs.Roles.{Roles}
 use Rattle.dcr_report.specs.Report.{report_text}
+use Rattle.dcr_roles.specs.Accepted.{case_accepted}
 use Rattle.dcr_app.specs.Headline.{IsDueFor, cluster_in, digest_of}
-use Rattle.dcr_app.specs.Outside.{IsSilent, Wrote}
+use Rattle.dcr_app.specs.Outside.{IsSilent, WereLeft, Wrote}
 use Rattle.dcr_app.specs.Telling.{Telling}
 
 -- ---- after a run
@@ -38,6 +39,11 @@ pub record HasKept {D : Type 0} (view : D → DiskView) (faults : D → ℕ) (di
   -- a crash at any moment since the call began left all executions from before, and of the others a beginning
   pub any_moment : IsSteady (view before) → StandsFor digest old (view before).content
       → LeavesOnly (view before) (view after) (StandsForSome digest old (tried_for old J))
+  -- the same of the first run over an empty disk, but that a crash while it was made a tape left at most 65 bytes
+  pub first_moment : IsSteady (view before) → (view before).content ≡ []
+      → LeavesOnly (view before) (view after) (λ content. IsUnmade content ⊎ StandsForSome digest old (tried_for old J) content)
+  -- over a disk that had nothing pending there is nothing pending again
+  pub steady : HasNoFault J → IsSteady (view before) → IsSteady (view after)
   pub no_fault : HasNoFault J → faults after ≡ faults before
   pub failed : ¬ HasNoFault J → (faults before ≤ faults after) × Rose (faults before) (faults after)
 
@@ -53,6 +59,24 @@ Keeps false view faults digest old J before after = after ≡ before
 abbrev pub StandsStill : {D : Type 0} → (D → DiskView) → D → D → Type 0
 StandsStill view before after = (digest : List ℕ) (old : List TapeEntry) → IsSteady (view before) → StandsFor digest old (view before).content
     → LeavesOnly (view before) (view after) (StandsFor digest old)
+
+-- What becomes of a content that is told: it is as it was, whatever it is; but an empty one may be made a tape, and one that
+-- is a tape of the case that was read may be renewed (`StandsStill` says what that leaves).
+pub data KeepsContent (left : Option (List ℕ)) (before after : DiskView) : Type 0 where
+  as_it_was : IsTrue after.told → after.content ≡ before.content → KeepsContent left before after
+  was_empty : before.content ≡ [] → KeepsContent left before after
+  was_its_tape : (bytes : List ℕ) → WereLeft left bytes → (case : Spelled) → case_accepted bytes ≡ Ok case → (old : List TapeEntry) → StandsFor (digest_of case) old before.content
+      → KeepsContent left before after
+
+-- a content that is left while an empty disk is made a tape: at most 65 bytes, or a tape of no executions
+abbrev pub IsMaking : List ℕ → Type 0
+IsMaking content = IsUnmade content ⊎ ((digest : List ℕ) × StandsFor digest [] content)
+
+-- Of a disk that had nothing pending: there is nothing pending again, but where the disk failed; and a crash at any moment since
+-- the call began left of an empty one at most 65 bytes, or a tape of no executions.
+pub record StaysSettled {D : Type 0} (view : D → DiskView) (before after : D) (status : Status) : Type 0 where
+  pub steady : status ≢ named.DiskFault → IsSteady (view before) → IsSteady (view after)
+  pub empty : IsSteady (view before) → (view before).content ≡ [] → LeavesOnly (view before) (view after) IsMaking
 
 -- The cause stands in this content, for the case: it is no tape of the case that has sound records, or its first execution
 -- that can't be done, each after those before it, is this one.

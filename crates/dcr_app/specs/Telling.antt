@@ -84,11 +84,12 @@ IsOfLink cause.NoMemory = ⊥
 
 -- What became of the door over which so many sessions were served: it has left the links that no session had. With `Done`,
 -- and with every other status but `NoMemory` where its count of faults didn't rise, each session had one or the door has
--- shut. With `Done` no session was cut off.
+-- shut. With `Done` no session was cut off, and the door didn't fail.
 pub record LeavesDoor {B L R : Type 0} (doors : Doors B L R) (before after : B) (sessions : ℕ) (ends : List (LinkEnd L R)) (status : Status) : Type 0 where
   pub left : AreAllButFirst (doors.links before) (length ends) (doors.links after)
   pub all : (status ≡ Done) ⊎ ((status ≢ NoMemory) × (Rose (doors.faults before) (doors.faults after) → ⊥)) → (length ends ≡ sessions) ⊎ doors.is_shut after
   pub by_links : status ≡ Done → All (λ (end : LinkEnd L R). IsOfLink end.end.cause) ends
+  pub unfailed : status ≡ Done → doors.faults after ≡ doors.faults before
   pub never_falls : doors.faults before ≤ doors.faults after
 
 -- ---- each way

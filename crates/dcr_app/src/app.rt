@@ -1,13 +1,13 @@
-ghost use Rattle.std.specs.Prelude.{◌≡◌, ◌≢◌, ◌⊎◌, ◌≤◌, Bool, false, ℕ, length, Some, None, IfSome};
+ghost use Rattle.std.specs.Prelude.{◌≡◌, ◌≢◌, ◌⊎◌, ◌≤◌, Bool, false, ℕ, length, Some, None, IfSome, IsTrue};
 ghost use Rattle.std.specs.Io.KnownBytes.{IsAtEnd};
 ghost use Rattle.dcr_base.specs.Count.{Rose};
 ghost use Rattle.dcr_roles.specs.Accepted.{case_accepted};
 ghost use Rattle.dcr_app.specs.Adapted.{IsAnsweredStages, WroteReports};
-ghost use Rattle.dcr_app.specs.Answers.{Answers, EndsRun, EndsServing, IsApart, IsAnsweredCase, IsAnsweredReport, IsDoneThroughout, IsOr, IsReading, IsReporting, IsServing, IsStored, IsTapeRefused, IsToldByOne, Refuses, SaysInvalid, SaysValid, WroteReport};
+ghost use Rattle.dcr_app.specs.Answers.{Answers, EndsRun, EndsServing, IsApart, IsAnsweredCase, IsAnsweredReport, IsDoneThroughout, IsHeadline, IsOr, IsReading, IsReporting, IsServing, IsStored, IsTapeRefused, IsToldByOne, Refuses, SaysInvalid, SaysValid, WroteReport};
 ghost use Rattle.dcr_app.specs.Command.{command_in};
 ghost use Rattle.dcr_app.specs.Logged.{IsAnsweredLog};
 ghost use Rattle.dcr_app.specs.Outside.{TookAtMost, most_read};
-ghost use Rattle.dcr_app.specs.Stored.{StandsStill};
+ghost use Rattle.dcr_app.specs.Stored.{KeepsContent, StandsStill, StaysSettled};
 ghost use Rattle.dcr_app.specs.Telling.{IsUnasked, LeavesDoor, doors_of};
 ghost use Rattle.dcr_app.specs.declared.command.Command.TheVariants.{Run, Serve, Replay, Load, Nodes, Conform, Adapt};
 
@@ -56,18 +56,20 @@ pub struct End<B: Door, D> {
 /// The program. `run` reads a case file to its end, makes its sessions' calls by so many workers on sites that stand behind
 /// locks of their own and decide from their own marks, and writes the report of that run. `serve` reads a case file too, and
 /// in the place of its sessions serves so many others, each over the next link that the door gives, by so many workers: it
-/// answers their calls line by line, those that the policy denies without making them, until each session has had its link or the door is shut or has failed, and then writes
-/// the report. With `--store` both go on from the executions that the disk stands for, which is made a tape of the case where
-/// it is empty, and each execution is on the disk before it is answered. `replay` reads a report to its end, checks it by the
-/// plain engine of the whole graph, and writes one line: that it is the report of a legal history, or which line is the first
-/// wrong one. `load` reads nothing: it makes the case of its number, runs it by one worker, and writes one line about that run.
-/// `nodes` reads a case file as `run` does, runs its executions, and no other call, at sites that talk by messages alone, over
-/// a network that loses, repeats and reorders them as its number picks, and writes the report, which is the same for every
-/// number. `conform` reads a case file, which is its first line, and an event log behind it, judges each trace of the log by the
-/// plain engine of the whole graph, and writes one line for each in order of first appearance, and then how many there are.
-/// Other words are answered by the line `usage`. A file that is no case, or whose policy fails or denies a call of its
-/// sessions, and a report of more than 268,435,456 bytes, is refused by one line that tells why, and so is a log with a bad
-/// record, and a disk that isn't empty and isn't a tape of the case that can be gone on from.
+/// answers their calls line by line, those that the policy denies without making them, until each session has had its link or
+/// the door is shut or has failed, and then writes the report. A run that either of them tells is the headline's (`Headline` of
+/// `specs/Headline.antt`, by the clause `headline`). With `--store` both go on from the executions that the disk stands for,
+/// which is made a tape of the case where it is empty, and each execution is on the disk before it is answered. `replay` reads
+/// a report to its end, checks it by the plain engine of the whole graph, and writes one line: that it is the report of a legal
+/// history, or which line is the first wrong one. `load` reads nothing: it makes the case of its number, runs it by one worker,
+/// and writes one line about that run. `nodes` reads a case file as `run` does, runs its executions, and no other call, at
+/// sites that talk by messages alone, over a network that loses, repeats and reorders them as its number picks, and writes the
+/// report, which is the same for every number. `conform` reads a case file, which is its first line, and an event log behind
+/// it, judges each trace of the log by the plain engine of the whole graph, and writes one line for each in order of first
+/// appearance, and then how many there are. Other words are answered by the line `usage`. A file that is no case, or whose
+/// policy fails or denies a call of its sessions, and a report of more than 268,435,456 bytes, is refused by one line that
+/// tells why, and so is a log with a bad record, and a disk that isn't empty and isn't a tape of the case that can be gone on
+/// from.
 ///
 /// `Done` comes where the report, `valid` or the line of `load` was written, `Invalid` where `invalid` was, `Usage`, `Refused` and
 /// `TapeRefused` where their lines were. `ReadFault` comes exactly where a read failed, and then nothing was written.
@@ -97,18 +99,23 @@ pub fn dcr<
     disk: D,
     gate: G,
 ) -> End<B, D>
+    ensures headline { IsHeadline D.view D.faults (doors_of B.links B.is_shut B.faults B.Link.left B.Link.taken B.Link.Rest.unread B.Link.Rest.sent
+        B.Link.Rest.failed_reads B.Link.Rest.failed_writes)
+        (command_in words.now) door disk (I.left input.old) (I.has_ended input.new) (O.taken output.old) (O.taken output.new) result }
     ensures answers { Answers D.view D.faults (doors_of B.links B.is_shut B.faults B.Link.left B.Link.taken B.Link.Rest.unread B.Link.Rest.sent
         B.Link.Rest.failed_reads B.Link.Rest.failed_writes)
         (command_in words.now) door disk (I.left input.old) (I.has_ended input.new) (O.taken output.old) (O.taken output.new) result }
     ensures read_counted { result.status ≡ Status.ReadFault → Rose (I.read_faults input.old) (I.read_faults input.new) }
     ensures write_counted { result.status ≡ Status.WriteFault → Rose (O.write_faults output.old) (O.write_faults output.new) }
     ensures disk_counted { result.status ≡ Status.DiskFault → Rose (D.faults disk) (D.faults result.disk) }
+    ensures disk_told { result.closed ≡ None → result.status ≢ Status.DiskFault → D.faults result.disk ≡ D.faults disk }
     ensures no_read_fault { result.status ≢ Status.ReadFault → I.read_faults input.new ≡ I.read_faults input.old }
     ensures no_write_fault { result.status ≢ Status.WriteFault → O.write_faults output.new ≡ O.write_faults output.old }
     ensures reads_never_fall { I.read_faults input.old ≤ I.read_faults input.new }
     ensures writes_never_fall { O.write_faults output.old ≤ O.write_faults output.new }
     ensures disks_never_fall { D.faults disk ≤ D.faults result.disk }
     ensures door_counted { result.status ≡ Status.DoorFault → Rose (B.faults door) (B.faults result.door) }
+    ensures no_door_fault { result.status ≡ Status.Done → B.faults result.door ≡ B.faults door }
     ensures doors_never_fall { B.faults door ≤ B.faults result.door }
     ensures asked { TookAtMost (most_read (command_in words.now)) (I.left input.old) (I.left input.new) }
     ensures ended { IsReading (command_in words.now) → result.status ≡ Status.Done → I.has_ended input.new }
@@ -116,6 +123,8 @@ pub fn dcr<
 
     ensures unstored { ¬ IsStored (command_in words.now) → result.disk ≡ disk }
     ensures still { result.closed ≡ None → StandsStill D.view disk result.disk }
+    ensures settled { result.closed ≡ None → StaysSettled D.view disk result.disk result.status }
+    ensures content { result.closed ≡ None → IsTrue (D.view disk).told → KeepsContent (I.left input.old) (D.view disk) (D.view result.disk) }
     ensures uncalled { (result.status ≡ Status.Refused) ⊎ (result.status ≡ Status.ReadFault) → result.disk ≡ disk }
     ensures unserved { ¬ IsServing (command_in words.now) → IsUnasked door result.door result.ends.items }
     ensures unasked { result.closed ≡ None → IsUnasked door result.door result.ends.items }

@@ -1,12 +1,12 @@
 // The commands that execute a case.
-ghost use Rattle.std.specs.Prelude.{◌≡◌, ◌≢◌, ◌⊎◌, ◌≤◌, List, ℕ, Some, None, Ok, false, ⊤};
+ghost use Rattle.std.specs.Prelude.{◌≡◌, ◌≢◌, ◌⊎◌, ◌≤◌, List, ℕ, Some, None, Ok, IsTrue, false, ⊤};
 ghost use Rattle.std.specs.Io.KnownBytes.{IsAtEnd};
 ghost use Rattle.dcr_base.specs.Count.{Rose};
 ghost use Rattle.dcr_roles.specs.Accepted.{accepted_in, both_of, IsAccepted};
 ghost use Rattle.dcr_app.specs.Answers.{AnswersCase, WroteReport};
 ghost use Rattle.dcr_app.specs.Command.{IsWay};
 ghost use Rattle.dcr_app.specs.Outside.{TookAtMost};
-ghost use Rattle.dcr_app.specs.Stored.{StandsStill};
+ghost use Rattle.dcr_app.specs.Stored.{KeepsContent, StandsStill, StaysSettled};
 ghost use Rattle.dcr_app.specs.Telling.{Leaves, doors_of, told_by};
 
 use crate::End;
@@ -60,6 +60,7 @@ pub(crate) fn run<
     ensures read_counted { result.status ≡ Status.ReadFault → Rose (I.read_faults input.old) (I.read_faults input.new) }
     ensures write_counted { result.status ≡ Status.WriteFault → Rose (O.write_faults output.old) (O.write_faults output.new) }
     ensures disk_counted { result.status ≡ Status.DiskFault → Rose (D.faults disk) (D.faults result.disk) }
+    ensures disk_told { result.closed ≡ None → result.status ≢ Status.DiskFault → D.faults result.disk ≡ D.faults disk }
     ensures no_read_fault { result.status ≢ Status.ReadFault → I.read_faults input.new ≡ I.read_faults input.old }
     ensures no_write_fault { result.status ≢ Status.WriteFault → O.write_faults output.new ≡ O.write_faults output.old }
     ensures reads_never_fall { I.read_faults input.old ≤ I.read_faults input.new }
@@ -67,6 +68,8 @@ pub(crate) fn run<
     ensures disks_never_fall { D.faults disk ≤ D.faults result.disk }
     ensures unstored { store ≡ false → result.disk ≡ disk }
     ensures still { result.closed ≡ None → StandsStill D.view disk result.disk }
+    ensures settled { result.closed ≡ None → StaysSettled D.view disk result.disk result.status }
+    ensures content { result.closed ≡ None → IsTrue (D.view disk).told → KeepsContent (I.left input.old) (D.view disk) (D.view result.disk) }
     ensures uncalled { (result.status ≡ Status.Refused) ⊎ (result.status ≡ Status.ReadFault) → result.disk ≡ disk }
 {
     match read_all(alloc, input, MAX_BYTES) {
@@ -108,11 +111,14 @@ fn run_bytes<
     ensures no_read_fault { result.status ≢ Status.ReadFault }
     ensures counted { result.status ≡ Status.WriteFault → Rose (O.write_faults output.old) (O.write_faults output.new) }
     ensures disk_counted { result.status ≡ Status.DiskFault → Rose (D.faults disk) (D.faults result.disk) }
+    ensures disk_told { result.closed ≡ None → result.status ≢ Status.DiskFault → D.faults result.disk ≡ D.faults disk }
     ensures no_write_fault { result.status ≢ Status.WriteFault → O.write_faults output.new ≡ O.write_faults output.old }
     ensures never_falls { O.write_faults output.old ≤ O.write_faults output.new }
     ensures disks_never_fall { D.faults disk ≤ D.faults result.disk }
     ensures unstored { store ≡ false → result.disk ≡ disk }
     ensures still { result.closed ≡ None → StandsStill D.view disk result.disk }
+    ensures settled { result.closed ≡ None → StaysSettled D.view disk result.disk result.status }
+    ensures content { result.closed ≡ None → IsTrue (D.view disk).told → KeepsContent (Some bytes.now) (D.view disk) (D.view result.disk) }
     ensures uncalled { result.status ≡ Status.Refused → result.disk ≡ disk }
 {
     match read_accepted(alloc, bytes) {
@@ -154,11 +160,15 @@ fn run_accepted<
     ensures no_read_fault { result.status ≢ Status.ReadFault }
     ensures counted { result.status ≡ Status.WriteFault → Rose (O.write_faults output.old) (O.write_faults output.new) }
     ensures disk_counted { result.status ≡ Status.DiskFault → Rose (D.faults disk) (D.faults result.disk) }
+    ensures disk_told { result.closed ≡ None → result.status ≢ Status.DiskFault → D.faults result.disk ≡ D.faults disk }
     ensures no_write_fault { result.status ≢ Status.WriteFault → O.write_faults output.new ≡ O.write_faults output.old }
     ensures never_falls { O.write_faults output.old ≤ O.write_faults output.new }
     ensures disks_never_fall { D.faults disk ≤ D.faults result.disk }
     ensures unstored { store ≡ false → result.disk ≡ disk }
     ensures still { result.closed ≡ None → StandsStill D.view disk result.disk }
+    ensures settled { result.closed ≡ None → StaysSettled D.view disk result.disk result.status }
+    ensures content { (bytes : List ℕ) → accepted_in bytes ≡ Ok (both_of accepted.now) → result.closed ≡ None → IsTrue (D.view disk).told
+        → KeepsContent (Some bytes) (D.view disk) (D.view result.disk) }
     ensures unrefused { result.status ≢ Status.Refused }
 {
     // What the bytes of a case say, for the headline, and that a disk stands for one list.

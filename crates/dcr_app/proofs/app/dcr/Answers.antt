@@ -4,7 +4,7 @@ use Rattle.dcr_base.specs.declared.status.Status.{Status}
 use Rattle.dcr_base.specs.declared.status.Status.TheVariants.{Done, DoorFault, Invalid, NoMemory, Refused, Usage, WriteFault}
 use Rattle.dcr_roles.specs.Accepted.{case_accepted}
 use Rattle.dcr_app.specs.Adapted.{AnswersStages, IsAnsweredStages, RefusesStages, WroteReports}
-use Rattle.dcr_app.specs.Answers.{Answers, EndsRun, EndsServing, IsAnsweredCase, IsAnsweredReport, IsServing, IsToldByOne, Refuses, RefusesCase, SaysInvalid, SaysValid}
+use Rattle.dcr_app.specs.Answers.{Answers, EndsRun, EndsServing, IsAnsweredCase, IsAnsweredReport, IsHeadline, IsServing, IsToldByOne, Refuses, RefusesCase, SaysInvalid, SaysValid}
 use Rattle.dcr_app.specs.Command.{command_in}
 use Rattle.dcr_app.specs.Logged.{AnswersLog, IsAnsweredLog, RefusesInput}
 use Rattle.dcr_app.specs.Telling.{LeavesDoor, Telling, by_workers, doors_of, over_links}
@@ -16,10 +16,11 @@ use Rattle.dcr_app.proofs.ApartLemmas.{EndsApart, answered_apart, apart_ends, re
 use Rattle.dcr_app.proofs.CommandLemmas.{one_run, one_serving}
 use Rattle.dcr_app.proofs.ConformLemmas.{answered_log, log_ends, refuses_log}
 use Rattle.dcr_app.proofs.FaultlessLemmas.{answered_case}
-use Rattle.dcr_app.proofs.LinksLemmas.{door_by, full_by, full_told, left_by, no_fewer_by, unasked_by}
+use Rattle.dcr_app.proofs.LinksLemmas.{door_by, full_by, full_told, left_by, no_fewer_by, unasked_by, unfailed_by}
 use Rattle.dcr_app.proofs.ReplayLemmas.{answered_report, refuses_report, says_invalid, says_valid}
+use Rattle.dcr_app.proofs.HeadlineLemmas.{headline_by, tells_run_of}
 use Rattle.dcr_app.proofs.RunLemmas.{cases_are_accepted, done_throughout, told_by_one}
-use Rattle.dcr_app.proofs.TapeLemmas.{still_same}
+use Rattle.dcr_app.proofs.TapeLemmas.{content_same, settled_same, still_same}
 use Rattle.dcr_app.proofs.app.dcr.Goals.{in-None, in-Some-Adapt, in-Some-Conform, in-Some-Load, in-Some-Nodes, in-Some-Replay}
 use Rattle.dcr_app.proofs.app.dcr.Goals as goal
 
@@ -36,6 +37,15 @@ spelled : (g : _) (c : goal.After-run g) (workers : ℕ) (store : Bool) → comm
 spelled g c workers store is =
     one_run (command_in c.args.words.now) c.in-Some-Run.workers workers c.in-Some-Run.store store
     (sym c.command_of.ensures.spelled ∙ (c.in-Some-Run.is ∙ ap Some c.in-Some-Run.field-0-is)) is
+
+-- the run that is told is the headline's
+pub returns-in-Some-Run-clause-headline : goal.returns-in-Some-Run-clause-headline
+returns-in-Some-Run-clause-headline g c =
+    let end = c.run.result in
+    subst (λ command. IsHeadline g.D.Disk.view g.D.Disk.faults (doors_of g.B.Door.links g.B.Door.is_shut g.B.Door.faults g.B.Link.Source.left g.B.Link.Sink.taken g.B.Link.Rest.Spent.unread g.B.Link.Rest.Spent.sent g.B.Link.Rest.Spent.failed_reads g.B.Link.Rest.Spent.failed_writes) command c.args.door c.args.disk (g.I.Source.left c.args.input.now) (g.I.Source.has_ended c.run.new.input) (g.O.Sink.taken c.args.output.now) (g.O.Sink.taken c.run.new.output) end)
+    (sym (sym c.command_of.ensures.spelled ∙ (c.in-Some-Run.is ∙ ap Some c.in-Some-Run.field-0-is)))
+    (tells_run_of g.D.Disk.view g.D.Disk.faults (by_workers c.in-Some-Run.workers) c.in-Some-Run.store c.args.disk end.disk (g.I.Source.left c.args.input.now) (g.I.Source.has_ended c.run.new.input)
+    (g.O.Sink.taken c.args.output.now) (g.O.Sink.taken c.run.new.output) end.status end.closed c.run.ensures.answers)
 
 pub returns-in-Some-Run-clause-converse : goal.returns-in-Some-Run-clause-converse
 returns-in-Some-Run-clause-converse g c = λ workers store is.
@@ -98,6 +108,14 @@ serves g c =
     is_serving (command_in c.args.words.now) c.in-Some-Serve.sessions c.in-Some-Serve.workers c.in-Some-Serve.store
     (sym c.command_of.ensures.spelled ∙ (c.in-Some-Serve.is ∙ ap Some c.in-Some-Serve.field-0-is))
 
+pub returns-in-Some-Serve-clause-headline : goal.returns-in-Some-Serve-clause-headline
+returns-in-Some-Serve-clause-headline g c =
+    let end = c.run-in-Some-Serve.result in
+    subst (λ command. IsHeadline g.D.Disk.view g.D.Disk.faults (doors_of g.B.Door.links g.B.Door.is_shut g.B.Door.faults g.B.Link.Source.left g.B.Link.Sink.taken g.B.Link.Rest.Spent.unread g.B.Link.Rest.Spent.sent g.B.Link.Rest.Spent.failed_reads g.B.Link.Rest.Spent.failed_writes) command c.args.door c.args.disk (g.I.Source.left c.args.input.now) (g.I.Source.has_ended c.run-in-Some-Serve.new.input) (g.O.Sink.taken c.args.output.now) (g.O.Sink.taken c.run-in-Some-Serve.new.output) end)
+    (sym (sym c.command_of.ensures.spelled ∙ (c.in-Some-Serve.is ∙ ap Some c.in-Some-Serve.field-0-is)))
+    (tells_run_of g.D.Disk.view g.D.Disk.faults (told_serving g c) c.in-Some-Serve.store c.args.disk end.disk (g.I.Source.left c.args.input.now) (g.I.Source.has_ended c.run-in-Some-Serve.new.input)
+    (g.O.Sink.taken c.args.output.now) (g.O.Sink.taken c.run-in-Some-Serve.new.output) end.status end.closed c.run-in-Some-Serve.ensures.answers)
+
 pub returns-in-Some-Serve-clause-door_counted : goal.returns-in-Some-Serve-clause-door_counted
 returns-in-Some-Serve-clause-door_counted g c = serving_door_by g c
 
@@ -105,6 +123,11 @@ pub returns-in-Some-Serve-clause-doors_never_fall : goal.returns-in-Some-Serve-c
 returns-in-Some-Serve-clause-doors_never_fall g c =
     let end = c.run-in-Some-Serve.result in
     no_fewer_by (doors_of g.B.Door.links g.B.Door.is_shut g.B.Door.faults g.B.Link.Source.left g.B.Link.Sink.taken g.B.Link.Rest.Spent.unread g.B.Link.Rest.Spent.sent g.B.Link.Rest.Spent.failed_reads g.B.Link.Rest.Spent.failed_writes) c.in-Some-Serve.sessions end.closed c.args.door end.door end.ends.items end.status c.run-in-Some-Serve.ensures.door
+
+pub returns-in-Some-Serve-clause-no_door_fault : goal.returns-in-Some-Serve-clause-no_door_fault
+returns-in-Some-Serve-clause-no_door_fault g c =
+    let end = c.run-in-Some-Serve.result in
+    unfailed_by (doors_of g.B.Door.links g.B.Door.is_shut g.B.Door.faults g.B.Link.Source.left g.B.Link.Sink.taken g.B.Link.Rest.Spent.unread g.B.Link.Rest.Spent.sent g.B.Link.Rest.Spent.failed_reads g.B.Link.Rest.Spent.failed_writes) c.in-Some-Serve.sessions end.closed c.args.door end.door end.ends.items end.status c.run-in-Some-Serve.ensures.door
 
 pub returns-in-Some-Serve-clause-unserved : goal.returns-in-Some-Serve-clause-unserved
 returns-in-Some-Serve-clause-unserved g c = λ never. absurd (never (serves g c))
@@ -203,8 +226,22 @@ returns-clause-answers g c =
       | in-None w ↦ search rules
     ]
 
+pub returns-clause-headline : goal.returns-clause-headline
+returns-clause-headline g c =
+    headline_by g.D.Disk.view g.D.Disk.faults (doors_of g.B.Door.links g.B.Door.is_shut g.B.Door.faults g.B.Link.Source.left g.B.Link.Sink.taken g.B.Link.Rest.Spent.unread g.B.Link.Rest.Spent.sent g.B.Link.Rest.Spent.failed_reads g.B.Link.Rest.Spent.failed_writes) (command_in c.args.words.now) c.args.door c.args.disk (g.I.Source.left c.args.input.now) (g.I.Source.has_ended c.match-command_of.input) (g.O.Sink.taken c.args.output.now) (g.O.Sink.taken c.match-command_of.output) c.over.result
+    (returns-clause-answers g c)
+
+pub returns-clause-disk_told : goal.returns-clause-disk_told
+returns-clause-disk_told g c = λ none other. ap g.D.Disk.faults (handed g c)
+
 pub returns-clause-still : goal.returns-clause-still
 returns-clause-still g c = λ _. still_same g.D.Disk.view c.args.disk c.over.result.disk (handed g c)
+
+pub returns-clause-settled : goal.returns-clause-settled
+returns-clause-settled g c = λ _. settled_same g.D.Disk.view c.args.disk c.over.result.disk c.over.result.status (handed g c)
+
+pub returns-clause-content : goal.returns-clause-content
+returns-clause-content g c = λ none told. content_same g.D.Disk.view (g.I.Source.left c.args.input.now) c.args.disk c.over.result.disk (handed g c) told
 
 pub returns-clause-valid : goal.returns-clause-valid
 returns-clause-valid g c = λ replays done. elim c.match-command_of.branch [

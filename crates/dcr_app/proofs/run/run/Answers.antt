@@ -5,7 +5,7 @@ use Rattle.dcr_app.specs.Telling.{doors_of, told_by}
 use Rattle.dcr_app.specs.declared.app.End.{End}
 use Rattle.dcr_app.proofs.OutsideLemmas.{at_end, not_asked, starved, took_all, unread, untold}
 use Rattle.dcr_app.proofs.RunLemmas.{answers_from, silent_run, too_long_run}
-use Rattle.dcr_app.proofs.TapeLemmas.{still_same}
+use Rattle.dcr_app.proofs.TapeLemmas.{content_left, content_same, settled_same, still_same}
 use Rattle.dcr_app.proofs.run.run.Goals as goal
 
 pub returns-in-Ok-clause-answers : goal.returns-in-Ok-clause-answers
@@ -40,6 +40,14 @@ pub returns-in-Err-ReadFault-clause-still : goal.returns-in-Err-ReadFault-clause
 returns-in-Err-ReadFault-clause-still g c = λ none.
     still_same g.D.Disk.view c.args.disk c.over-in-Err-ReadFault.result.disk (ap (λ (e : End _ _ _ _). e.disk) c.over-in-Err-ReadFault.ensures)
 
+pub returns-in-Err-ReadFault-clause-settled : goal.returns-in-Err-ReadFault-clause-settled
+returns-in-Err-ReadFault-clause-settled g c = λ none.
+    settled_same g.D.Disk.view c.args.disk c.over-in-Err-ReadFault.result.disk c.over-in-Err-ReadFault.result.status (ap (λ (e : End _ _ _ _). e.disk) c.over-in-Err-ReadFault.ensures)
+
+pub returns-in-Err-ReadFault-clause-content : goal.returns-in-Err-ReadFault-clause-content
+returns-in-Err-ReadFault-clause-content g c = λ none told.
+    content_same g.D.Disk.view (g.I.Source.left c.args.input.now) c.args.disk c.over-in-Err-ReadFault.result.disk (ap (λ (e : End _ _ _ _). e.disk) c.over-in-Err-ReadFault.ensures) told
+
 pub returns-clause-answers : goal.returns-clause-answers
 returns-clause-answers g c =
     let left = g.I.Source.left c.args.input.now in let has_ended = g.I.Source.has_ended c.read_all.new.source in
@@ -70,10 +78,32 @@ returns-in-Ok-clause-asked g c =
     took_all 16777216 16777217 (g.I.Source.left c.args.input.now) (g.I.Source.left c.read_all.new.source) c.in-Ok.bytes.items
     refl (omega (arith, c.in-Ok.ensures.within, c.in-Ok.bytes.ok)) c.in-Ok.ensures.all c.in-Ok.ensures.told c.in-Ok.ensures.ended
 
+pub returns-in-Ok-clause-content : goal.returns-in-Ok-clause-content
+returns-in-Ok-clause-content g c = λ none told.
+    let left = g.I.Source.left c.args.input.now in
+    let all = subst (λ text. IfSome left (λ it. text ≡ it)) (sym c.deref.ensures.value) c.in-Ok.ensures.all in
+    content_left left c.deref.result.now (g.D.Disk.view c.args.disk) (g.D.Disk.view c.run_bytes.result.disk) all (c.run_bytes.ensures.content none told)
+
 pub returns-in-Err-TooLong-clause-still : goal.returns-in-Err-TooLong-clause-still
 returns-in-Err-TooLong-clause-still g c = λ none.
     still_same g.D.Disk.view c.args.disk c.over.result.disk (ap (λ (e : End _ _ _ _). e.disk) c.over.ensures)
 
+pub returns-in-Err-TooLong-clause-settled : goal.returns-in-Err-TooLong-clause-settled
+returns-in-Err-TooLong-clause-settled g c = λ none.
+    settled_same g.D.Disk.view c.args.disk c.over.result.disk c.over.result.status (ap (λ (e : End _ _ _ _). e.disk) c.over.ensures)
+
+pub returns-in-Err-TooLong-clause-content : goal.returns-in-Err-TooLong-clause-content
+returns-in-Err-TooLong-clause-content g c = λ none told.
+    content_same g.D.Disk.view (g.I.Source.left c.args.input.now) c.args.disk c.over.result.disk (ap (λ (e : End _ _ _ _). e.disk) c.over.ensures) told
+
 pub returns-clause-still : goal.returns-clause-still
 returns-clause-still g c = λ none.
     still_same g.D.Disk.view c.args.disk c.over-in-Err-NoMemory.result.disk (ap (λ (e : End _ _ _ _). e.disk) c.over-in-Err-NoMemory.ensures)
+
+pub returns-clause-settled : goal.returns-clause-settled
+returns-clause-settled g c = λ none.
+    settled_same g.D.Disk.view c.args.disk c.over-in-Err-NoMemory.result.disk c.over-in-Err-NoMemory.result.status (ap (λ (e : End _ _ _ _). e.disk) c.over-in-Err-NoMemory.ensures)
+
+pub returns-clause-content : goal.returns-clause-content
+returns-clause-content g c = λ none told.
+    content_same g.D.Disk.view (g.I.Source.left c.args.input.now) c.args.disk c.over-in-Err-NoMemory.result.disk (ap (λ (e : End _ _ _ _). e.disk) c.over-in-Err-NoMemory.ensures) told

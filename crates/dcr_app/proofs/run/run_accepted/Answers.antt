@@ -8,13 +8,13 @@ use Rattle.dcr_base.specs.declared.status.Status.TheVariants.{NoMemory}
 use Rattle.dcr_json.specs.Built.{case_of}
 use Rattle.dcr_app.specs.Answers.{AnswersCase}
 use Rattle.dcr_app.specs.Headline.{digest_of}
-use Rattle.dcr_app.specs.Stored.{EndsOver, StandsStill}
+use Rattle.dcr_app.specs.Stored.{EndsOver, KeepsContent, StandsStill, StaysSettled}
 use Rattle.dcr_app.specs.Telling.{Telling, doors_of, told_by}
 use Rattle.dcr_app.specs.declared.app.End.{End}
 use Rattle.dcr_app.proofs.OutsideLemmas.{at_end, not_asked, untold}
-use Rattle.dcr_app.proofs.OverLemmas.{off_answers, off_same, on_answers, on_counted, on_no_fewer, on_still, unopened_answers, unopened_still}
+use Rattle.dcr_app.proofs.OverLemmas.{off_answers, off_same, on_answers, on_content, on_counted, on_no_fewer, on_settled, on_still, on_told, unopened_answers, unopened_settled, unopened_still, unopened_told}
 use Rattle.dcr_app.proofs.RunLemmas.{case_of_both}
-use Rattle.dcr_app.proofs.TapeLemmas.{still_same}
+use Rattle.dcr_app.proofs.TapeLemmas.{content_refused, content_same, settled_same, still_same}
 use Rattle.dcr_app.proofs.run.run_accepted.Goals as goal
 
 pub returns-then-not-store-clause-answers : goal.returns-then-not-store-clause-answers
@@ -69,6 +69,12 @@ returns-in-Ok-open_tape-clause-disk_counted g c =
     on_counted g.D.Disk.view g.D.Disk.faults (telling g c) (case_of c.args.accepted.now.case) c.args.accepted.now.policy c.one_list.ensures c.args.disk c.in-Ok-open_tape.tape c.in-Ok-open_tape.old.items (long_by g c)
     (opened_by g c) c.in-Ok-open_tape.ensures.ok_counts_none end.disk had took end.status end.closed (over_by g c)
 
+pub returns-in-Ok-open_tape-clause-disk_told : goal.returns-in-Ok-open_tape-clause-disk_told
+returns-in-Ok-open_tape-clause-disk_told g c =
+    let had = g.O.Sink.taken c.args.output.now in let took = g.O.Sink.taken c.run_over-in-Ok-open_tape.new.output in let end = c.run_over-in-Ok-open_tape.result in
+    on_told g.D.Disk.view g.D.Disk.faults (telling g c) (case_of c.args.accepted.now.case) c.args.accepted.now.policy c.one_list.ensures c.args.disk c.in-Ok-open_tape.tape c.in-Ok-open_tape.old.items (long_by g c)
+    (opened_by g c) c.in-Ok-open_tape.ensures.ok_counts_none end.disk had took end.status end.closed (over_by g c)
+
 pub returns-in-Ok-open_tape-clause-disks_never_fall :
     goal.returns-in-Ok-open_tape-clause-disks_never_fall
 returns-in-Ok-open_tape-clause-disks_never_fall g c =
@@ -81,6 +87,18 @@ returns-in-Ok-open_tape-clause-still g c =
     let had = g.O.Sink.taken c.args.output.now in let took = g.O.Sink.taken c.run_over-in-Ok-open_tape.new.output in let end = c.run_over-in-Ok-open_tape.result in
     on_still g.D.Disk.view g.D.Disk.faults (telling g c) (case_of c.args.accepted.now.case) c.args.accepted.now.policy c.one_list.ensures c.args.disk c.in-Ok-open_tape.tape c.in-Ok-open_tape.old.items (long_by g c)
     (opened_by g c) c.in-Ok-open_tape.ensures.ok_counts_none end.disk had took end.status end.closed (over_by g c)
+
+pub returns-in-Ok-open_tape-clause-settled : goal.returns-in-Ok-open_tape-clause-settled
+returns-in-Ok-open_tape-clause-settled g c =
+    let had = g.O.Sink.taken c.args.output.now in let took = g.O.Sink.taken c.run_over-in-Ok-open_tape.new.output in let end = c.run_over-in-Ok-open_tape.result in
+    on_settled g.D.Disk.view g.D.Disk.faults (telling g c) (case_of c.args.accepted.now.case) c.args.accepted.now.policy c.one_list.ensures c.args.disk c.in-Ok-open_tape.tape c.in-Ok-open_tape.old.items (long_by g c)
+    (opened_by g c) c.in-Ok-open_tape.ensures.ok_counts_none end.disk had took end.status end.closed (over_by g c)
+
+pub returns-in-Ok-open_tape-clause-content : goal.returns-in-Ok-open_tape-clause-content
+returns-in-Ok-open_tape-clause-content g c = λ bytes spelled none told.
+    let had = g.O.Sink.taken c.args.output.now in let took = g.O.Sink.taken c.run_over-in-Ok-open_tape.new.output in let end = c.run_over-in-Ok-open_tape.result in
+    on_content g.D.Disk.view g.D.Disk.faults (telling g c) (case_of c.args.accepted.now.case) c.args.accepted.now.policy c.one_list.ensures c.args.disk c.in-Ok-open_tape.tape c.in-Ok-open_tape.old.items (long_by g c)
+    (opened_by g c) c.in-Ok-open_tape.ensures.ok_counts_none end.disk had took end.status bytes (case_of_both bytes _ spelled) told
 
 pub returns-in-Err-clause-answers : goal.returns-in-Err-clause-answers
 returns-in-Err-clause-answers g c = λ bytes spelled.
@@ -105,6 +123,36 @@ returns-in-Err-clause-still g c = λ none.
     subst (λ d. StandsStill view before d) (sym (ap (λ (e : End _ _ _ _). e.disk) c.over-in-Err.ensures))
     (unopened_still view faults telling case before after why refused c.in-Err.ensures.counts had took answer.status c.refuse_tape.ensures.ends)
 
+pub returns-in-Err-clause-settled : goal.returns-in-Err-clause-settled
+returns-in-Err-clause-settled g c = λ none.
+    let view = g.D.Disk.view in let faults = g.D.Disk.faults in let before = c.args.disk in let after = c.in-Err.field-0.disk in let why = c.in-Err.field-0.cause in
+    let case = case_of c.args.accepted.now.case in
+    let had = g.O.Sink.taken c.args.output.now in let took = g.O.Sink.taken c.refuse_tape.new.output in let answer = c.refuse_tape.result in let end = c.over-in-Err.result in
+    let telling = told_by (doors_of g.B.Door.links g.B.Door.is_shut g.B.Door.faults g.B.Link.Source.left g.B.Link.Sink.taken g.B.Link.Rest.Spent.unread g.B.Link.Rest.Spent.sent g.B.Link.Rest.Spent.failed_reads g.B.Link.Rest.Spent.failed_writes) c.args.door end.door end.ends.items c.args.way in
+    let refused : NotOpened (view before) (view after) (digest_of case) why = subst (λ d. NotOpened (view before) (view after) d why) c.in-Ok.ensures c.in-Err.ensures.refused in
+    subst (λ d. StaysSettled view before d end.status) (sym (ap (λ (e : End _ _ _ _). e.disk) c.over-in-Err.ensures))
+    (subst (λ s. StaysSettled view before after s) (sym (ap (λ (e : End _ _ _ _). e.status) c.over-in-Err.ensures))
+    (unopened_settled view faults telling case before after why refused c.in-Err.ensures.counts had took answer.status c.refuse_tape.ensures.ends))
+
+pub returns-in-Err-clause-content : goal.returns-in-Err-clause-content
+returns-in-Err-clause-content g c = λ bytes spelled none told.
+    let view = g.D.Disk.view in let before = c.args.disk in let after = c.in-Err.field-0.disk in let why = c.in-Err.field-0.cause in
+    let case = case_of c.args.accepted.now.case in
+    let refused : NotOpened (view before) (view after) (digest_of case) why = subst (λ d. NotOpened (view before) (view after) d why) c.in-Ok.ensures c.in-Err.ensures.refused in
+    subst (λ d. KeepsContent (Some bytes) (view before) (view d)) (sym (ap (λ (e : End _ _ _ _). e.disk) c.over-in-Err.ensures))
+    (content_refused view before after (digest_of case) why refused (Some bytes) told)
+
+pub returns-in-Err-clause-disk_told : goal.returns-in-Err-clause-disk_told
+returns-in-Err-clause-disk_told g c = λ none other.
+    let view = g.D.Disk.view in let faults = g.D.Disk.faults in let before = c.args.disk in let after = c.in-Err.field-0.disk in let why = c.in-Err.field-0.cause in
+    let case = case_of c.args.accepted.now.case in
+    let had = g.O.Sink.taken c.args.output.now in let took = g.O.Sink.taken c.refuse_tape.new.output in let answer = c.refuse_tape.result in let end = c.over-in-Err.result in
+    let telling = told_by (doors_of g.B.Door.links g.B.Door.is_shut g.B.Door.faults g.B.Link.Source.left g.B.Link.Sink.taken g.B.Link.Rest.Spent.unread g.B.Link.Rest.Spent.sent g.B.Link.Rest.Spent.failed_reads g.B.Link.Rest.Spent.failed_writes) c.args.door end.door end.ends.items c.args.way in
+    let refused : NotOpened (view before) (view after) (digest_of case) why = subst (λ d. NotOpened (view before) (view after) d why) c.in-Ok.ensures c.in-Err.ensures.refused in
+    ap faults (ap (λ (e : End _ _ _ _). e.disk) c.over-in-Err.ensures)
+    ∙ unopened_told view faults telling case before after why refused c.in-Err.ensures.counts had took answer.status c.refuse_tape.ensures.ends
+    (λ is. other (ap (λ (e : End _ _ _ _). e.status) c.over-in-Err.ensures ∙ is))
+
 pub returns-in-Err-clause-door : goal.returns-in-Err-clause-door
 returns-in-Err-clause-door g c =
     let end = c.over-in-Err.result in
@@ -120,9 +168,38 @@ pub returns-in_default-clause-still : goal.returns-in_default-clause-still
 returns-in_default-clause-still g c = λ none.
     still_same g.D.Disk.view c.args.disk c.over.result.disk (ap (λ (e : End _ _ _ _). e.disk) c.over.ensures)
 
+pub returns-in_default-clause-settled : goal.returns-in_default-clause-settled
+returns-in_default-clause-settled g c = λ none.
+    settled_same g.D.Disk.view c.args.disk c.over.result.disk c.over.result.status (ap (λ (e : End _ _ _ _). e.disk) c.over.ensures)
+
+pub returns-in_default-clause-content : goal.returns-in_default-clause-content
+returns-in_default-clause-content g c = λ bytes spelled none told.
+    content_same g.D.Disk.view (Some bytes) c.args.disk c.over.result.disk (ap (λ (e : End _ _ _ _). e.disk) c.over.ensures) told
+
 pub returns-then-not-store-clause-still : goal.returns-then-not-store-clause-still
 returns-then-not-store-clause-still g c = λ none.
     let end = c.run_over.result in
     still_same g.D.Disk.view c.args.disk end.disk
+    (off_same g.D.Disk.view g.D.Disk.faults (told_by (doors_of g.B.Door.links g.B.Door.is_shut g.B.Door.faults g.B.Link.Source.left g.B.Link.Sink.taken g.B.Link.Rest.Spent.unread g.B.Link.Rest.Spent.sent g.B.Link.Rest.Spent.failed_reads g.B.Link.Rest.Spent.failed_writes) c.args.door end.door end.ends.items c.args.way) (case_of c.args.accepted.now.case) c.args.accepted.now.policy c.args.disk end.disk (g.O.Sink.taken c.args.output.now)
+    (g.O.Sink.taken c.run_over.new.output) end.status end.closed c.run_over.ensures.over)
+
+pub returns-then-not-store-clause-settled : goal.returns-then-not-store-clause-settled
+returns-then-not-store-clause-settled g c = λ none.
+    let end = c.run_over.result in
+    settled_same g.D.Disk.view c.args.disk end.disk end.status
+    (off_same g.D.Disk.view g.D.Disk.faults (told_by (doors_of g.B.Door.links g.B.Door.is_shut g.B.Door.faults g.B.Link.Source.left g.B.Link.Sink.taken g.B.Link.Rest.Spent.unread g.B.Link.Rest.Spent.sent g.B.Link.Rest.Spent.failed_reads g.B.Link.Rest.Spent.failed_writes) c.args.door end.door end.ends.items c.args.way) (case_of c.args.accepted.now.case) c.args.accepted.now.policy c.args.disk end.disk (g.O.Sink.taken c.args.output.now)
+    (g.O.Sink.taken c.run_over.new.output) end.status end.closed c.run_over.ensures.over)
+
+pub returns-then-not-store-clause-content : goal.returns-then-not-store-clause-content
+returns-then-not-store-clause-content g c = λ bytes spelled none told.
+    let end = c.run_over.result in
+    content_same g.D.Disk.view (Some bytes) c.args.disk end.disk
+    (off_same g.D.Disk.view g.D.Disk.faults (told_by (doors_of g.B.Door.links g.B.Door.is_shut g.B.Door.faults g.B.Link.Source.left g.B.Link.Sink.taken g.B.Link.Rest.Spent.unread g.B.Link.Rest.Spent.sent g.B.Link.Rest.Spent.failed_reads g.B.Link.Rest.Spent.failed_writes) c.args.door end.door end.ends.items c.args.way) (case_of c.args.accepted.now.case) c.args.accepted.now.policy c.args.disk end.disk (g.O.Sink.taken c.args.output.now)
+    (g.O.Sink.taken c.run_over.new.output) end.status end.closed c.run_over.ensures.over) told
+
+pub returns-then-not-store-clause-disk_told : goal.returns-then-not-store-clause-disk_told
+returns-then-not-store-clause-disk_told g c = λ none other.
+    let end = c.run_over.result in
+    ap g.D.Disk.faults
     (off_same g.D.Disk.view g.D.Disk.faults (told_by (doors_of g.B.Door.links g.B.Door.is_shut g.B.Door.faults g.B.Link.Source.left g.B.Link.Sink.taken g.B.Link.Rest.Spent.unread g.B.Link.Rest.Spent.sent g.B.Link.Rest.Spent.failed_reads g.B.Link.Rest.Spent.failed_writes) c.args.door end.door end.ends.items c.args.way) (case_of c.args.accepted.now.case) c.args.accepted.now.policy c.args.disk end.disk (g.O.Sink.taken c.args.output.now)
     (g.O.Sink.taken c.run_over.new.output) end.status end.closed c.run_over.ensures.over)
