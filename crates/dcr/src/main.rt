@@ -2,18 +2,19 @@
 //! status of the run.
 #![tactic(auto)]
 
-ghost use Rattle.std.specs.Prelude.{◌≡◌, ◌≢◌, [], IfErr, IfOk, drop};
+ghost use Rattle.std.specs.Prelude.{◌≡◌, ◌≢◌, [], Err, IsErr, IfErr, IfOk, drop};
 ghost use Rattle.std.specs.IoError.{error_kind};
 ghost use Rattle.std.specs.Process.{exit_status};
 ghost use Rattle.std.specs.Vec.Iter.{into_iter_items};
 ghost use Rattle.dcr_base.specs.Status.{code_of};
+ghost use Rattle.dcr_app.specs.Command.{command_in};
 ghost use Rattle.dcr_app.specs.Telling.{doors_of};
-ghost use Rattle.dcr.specs.Exit.{Exits, IsUntouched};
+ghost use Rattle.dcr.specs.Exit.{Exits, IsUntouched, outside};
 
 mod telling;
 
 use crate::telling::{TellingDoor, TellingSink, number_behind, tell_failure};
-use dcr_app::{Status, dcr};
+use dcr_app::{End, Status, dcr};
 use dcr_base::{Disk, Door, FileDisk, Gate, Link, OpenGate, Sink, Source, StdSink, StdSource};
 use std::alloc::Global;
 use std::fs::File;
@@ -49,7 +50,7 @@ fn main(rt: HostRuntime) -> ExitCode {
     let disk = FileDisk::new(rt.alloc(), files);
     let sessions = number_behind(env::args(&rt), "--sessions");
     let workers = number_behind(env::args(&rt), "--workers");
-    program(
+    let Exit { code, answer: _ } = program(
         &rt,
         rt.alloc(),
         env::args(&rt),
@@ -58,7 +59,8 @@ fn main(rt: HostRuntime) -> ExitCode {
         TellingDoor::new(&rt, PORT, sessions, workers),
         disk,
         OpenGate,
-    )
+    );
+    code
 }
 
 // Ends where the folder can't be opened, with nothing read, and nothing written but a line on standard error.
@@ -67,6 +69,20 @@ fn unopened<R: Eprint>(rt: &R) -> ExitCode
 {
     let _said = eprintln!(rt; "dcr: the folder {NOWHERE} can't be opened");
     exit_of(Status::DiskFault)
+}
+
+// The door and the disk of a program that has called neither.
+#[derive(Drop)]
+struct Unused<B, D> {
+    door: B,
+    disk: D,
+}
+
+// What the process ends with, and the end of its one command. There is none where memory failed before it.
+#[derive(Drop)]
+struct Exit<B: Door, D> {
+    code: ExitCode,
+    answer: Result<End<B, D>, Unused<B, D>>,
 }
 
 // The whole program: the words behind the first are the command, and the process ends with the number of the status
@@ -88,29 +104,34 @@ fn program<
     door: B,
     disk: D,
     gate: G,
-) -> ExitCode
+) -> Exit<B, D>
     ensures words { IfOk words (λ args. Exits D.view D.faults (doors_of B.links B.is_shut B.faults B.Link.left B.Link.taken B.Link.Rest.unread B.Link.Rest.sent
         B.Link.Rest.failed_reads B.Link.Rest.failed_writes)
-        door (drop 1 (into_iter_items args)) disk (I.left input.old) (I.left input.new)
-        (O.taken output.old) (O.taken output.new) (I.has_ended input.new) (exit_status result)) }
-    ensures no_text { IfErr words (λ error. error_kind error ≡ ErrorKind.InvalidData → Exits D.view D.faults
-        (doors_of B.links B.is_shut B.faults B.Link.left B.Link.taken B.Link.Rest.unread B.Link.Rest.sent
+        (command_in (drop 1 (into_iter_items args))) door disk
+        (outside (I.left input.old) (I.has_ended input.old) (I.read_faults input.old) (O.taken output.old) (O.write_faults output.old))
+        (outside (I.left input.new) (I.has_ended input.new) (I.read_faults input.new) (O.taken output.new) (O.write_faults output.new))
+        (exit_status result.code) result.answer) }
+    ensures no_text { IfErr words (λ error. error_kind error ≡ ErrorKind.InvalidData → Exits D.view D.faults (doors_of B.links B.is_shut B.faults B.Link.left B.Link.taken B.Link.Rest.unread B.Link.Rest.sent
         B.Link.Rest.failed_reads B.Link.Rest.failed_writes)
-        door [] disk (I.left input.old) (I.left input.new)
-        (O.taken output.old) (O.taken output.new) (I.has_ended input.new) (exit_status result)) }
-    ensures no_words { IfErr words (λ error. error_kind error ≢ ErrorKind.InvalidData → exit_status result ≡ code_of Status.NoMemory) }
-    ensures unread { IfErr words (λ error. error_kind error ≢ ErrorKind.InvalidData → IsUntouched (I.left input.old) (I.left input.new)
-        (O.taken output.old) (O.taken output.new)) }
+        (command_in []) door disk
+        (outside (I.left input.old) (I.has_ended input.old) (I.read_faults input.old) (O.taken output.old) (O.write_faults output.old))
+        (outside (I.left input.new) (I.has_ended input.new) (I.read_faults input.new) (O.taken output.new) (O.write_faults output.new))
+        (exit_status result.code) result.answer) }
+    ensures no_words { IfErr words (λ error. error_kind error ≢ ErrorKind.InvalidData → exit_status result.code ≡ code_of Status.NoMemory) }
+    ensures unread { IfErr words (λ error. error_kind error ≢ ErrorKind.InvalidData → IfErr result.answer (IsUntouched door disk
+        (outside (I.left input.old) (I.has_ended input.old) (I.read_faults input.old) (O.taken output.old) (O.write_faults output.old))
+        (outside (I.left input.new) (I.has_ended input.new) (I.read_faults input.new) (O.taken output.new) (O.write_faults output.new)))) }
+    ensures uncalled { IfErr words (λ error. error_kind error ≢ ErrorKind.InvalidData → IsErr result.answer) }
 {
     match words {
         Ok(words) => match behind_first(alloc, words) {
             Ok(words) => answer(rt, alloc, &words, input, output, door, disk, gate),
-            Err(_) => exit_of(Status::NoMemory),
+            Err(_) => starved(door, disk),
         },
         Err(error) if error.kind() == ErrorKind::InvalidData => {
             answer(rt, alloc, &[], input, output, door, disk, gate)
         }
-        Err(_) => exit_of(Status::NoMemory),
+        Err(_) => starved(door, disk),
     }
 }
 
@@ -131,15 +152,31 @@ fn answer<
     door: B,
     disk: D,
     gate: G,
-) -> ExitCode
+) -> Exit<B, D>
     ensures { Exits D.view D.faults (doors_of B.links B.is_shut B.faults B.Link.left B.Link.taken B.Link.Rest.unread B.Link.Rest.sent
         B.Link.Rest.failed_reads B.Link.Rest.failed_writes)
-        door words.now disk (I.left input.old) (I.left input.new) (O.taken output.old) (O.taken output.new)
-        (I.has_ended input.new) (exit_status result) }
+        (command_in words.now) door disk
+        (outside (I.left input.old) (I.has_ended input.old) (I.read_faults input.old) (O.taken output.old) (O.write_faults output.old))
+        (outside (I.left input.new) (I.has_ended input.new) (I.read_faults input.new) (O.taken output.new) (O.write_faults output.new))
+        (exit_status result.code) result.answer }
 {
     let end = dcr(rt, alloc, words, input, output, door, disk, gate);
     tell_failure(rt, end.status);
-    exit_of(end.status)
+    Exit {
+        code: exit_of(end.status),
+        answer: Ok(end),
+    }
+}
+
+// Ends for want of memory, with the door and the disk as they are.
+fn starved<B: Door, D>(door: B, disk: D) -> Exit<B, D>
+    ensures code { exit_status result.code ≡ code_of Status.NoMemory }
+    ensures answer { result.answer ≡ Err (record { door = door; disk = disk }) }
+{
+    Exit {
+        code: exit_of(Status::NoMemory),
+        answer: Err(Unused { door, disk }),
+    }
 }
 
 // The process ends with the number of the status.
