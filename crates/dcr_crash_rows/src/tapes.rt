@@ -8,11 +8,14 @@ use dcr_base::{Disk, OpenGate};
 use dcr_cell::StoreName;
 use dcr_cluster::{OpenCause, OpenRefused};
 use dcr_cluster_rows::{
-    Beginning, HOSPITAL, Parts, Step, case_of, expect, expect_valid, opened, parts_of, played,
+    Beginning, HOSPITAL, Parts, Step, case_of, expect, expect_valid, is_in_range, opened, parts_of,
+    played,
 };
 use dcr_fakes::MemDisk;
+use dcr_journal::Call;
 use dcr_json::Case;
 use dcr_report::case_digest;
+use dcr_set::{EventId, SiteId};
 use dcr_tape::{Store, TapeEntry, open_tape};
 use std::alloc::Global;
 use std::marker::Brand;
@@ -185,4 +188,68 @@ fn the_first_execution_that_cannot_be_done_is_told(rt: HostRuntime) -> Result<()
         expect_refused(tried(alloc, &case, store, old)?, wanted)?;
     }
     Ok(())
+}
+
+// How many executions a store has on its tape.
+fn entries_of(store: &Store<MemDisk>) -> Option<u32> {
+    match store {
+        Store::Off(_) => None,
+        Store::On(tape) => Some(tape.entries()),
+    }
+}
+
+// How many executions the store has, each time that one of these calls was answered.
+fn counted<N: StoreName<MemDisk>, R: Wait>(
+    rt: &R,
+    alloc: Global,
+    case: &Case,
+    parts: Parts,
+    store: Store<MemDisk>,
+    old: &[TapeEntry],
+    calls: &[Call],
+) -> Result<Vec<Option<u32>>, Fail>
+    requires case { IsCase case.now }
+    requires parts { AreOfCase case.now parts.blank parts.sites.items }
+    requires cluster { N.cluster ≡ cluster_of case.now old.now }
+    requires turn { N.turn ≡ parts.blank }
+    requires capacity { N.capacity ≡ 100 }
+    requires few_old { length old.now ≤ 1000000 }
+    requires first { N.first ≡ Some store }
+    requires begins { MayBegin ⟦<MemDisk as Disk>⟧.view old.now store }
+{
+    let opened = opened::<_, _, N>(alloc, case, parts, 100, store, old, OpenGate);
+    let Ok((cluster, mut passes)) = opened else {
+        return Err(Fail::new("the cluster is opened"));
+    };
+    let (sites, atoms) = (case.cover.sites(), case.graph.atoms());
+    let mut counts = Vec::new(alloc);
+    for call in calls {
+        let pass = passes.get_mut(0).ok_or("a session")?;
+        if is_in_range(call, sites, atoms) {
+            let _ = cluster.call(rt, pass, *call);
+        }
+        counts.push(cluster.with_store(rt, pass, |store: &Store<MemDisk>| entries_of(store)))?;
+    }
+    Ok(counts)
+}
+
+// An execution is on the tape by the time that it is answered, and a call that is blocked leaves none there.
+#[test]
+fn each_execution_is_on_the_tape_when_it_is_answered(rt: HostRuntime) -> Result<(), Fail> {
+    let alloc = rt.alloc();
+    let case = case_of(alloc, HOSPITAL)?;
+    let Beginning { store, old, .. } = on_tape(alloc, &case, disk_of(alloc, &[], &[])?)?;
+    let parts = parts_of(alloc, &case, 1)?;
+    let calls = [
+        Call::Exec(SiteId(0), EventId(0)),
+        Call::Exec(SiteId(1), EventId(2)),
+        Call::Exec(SiteId(0), EventId(1)),
+        Call::Accepting,
+    ];
+    let counts = counted::<Brand, _>(&rt, alloc, &case, parts, store, &old, &calls)?;
+    let wanted = [Some(1), Some(1), Some(2), Some(2)];
+    expect(
+        counts.as_slice() == wanted.as_slice(),
+        "an execution is kept when it is answered",
+    )
 }

@@ -7,6 +7,8 @@ mod apart;
 #[cfg(test)]
 mod faults;
 #[cfg(test)]
+mod polite;
+#[cfg(test)]
 mod same;
 #[cfg(test)]
 mod served;

@@ -393,6 +393,40 @@ fn two_sessions_are_served_at_once(rt: HostRuntime) -> Result<(), Fail> {
 }
 
 #[test]
+fn a_worker_goes_on_with_the_next_link_while_another_one_is_served(
+    rt: HostRuntime,
+) -> Result<(), Fail> {
+    let alloc = rt.alloc();
+    // The second call of the second session waits at the gate for the first one of the third.
+    let hold = Hold {
+        at: (1, 1),
+        until: (2, 0),
+        turns: 10_000_000,
+    };
+    let gate = HoldGate::new(hold, None);
+    let serving = Serving {
+        file: TWO_SITES,
+        words: &["serve", "--sessions", "3", "--workers", "2"],
+        links: &[
+            whole(b"exec A a\n"),
+            whole(b"exec B b\nexec B b\n"),
+            whole(b"exec A a\n"),
+        ],
+        failing: &[],
+    };
+    let came = served(&rt, alloc, &serving, empty_disk(alloc), &gate)?;
+    same(&rt, &came.status, &Status::Done, "the status");
+    same(
+        &rt,
+        &gate.first_spent(),
+        &false,
+        "a call that was held in vain",
+    );
+    same(&rt, &came.ends.len(), &3, "sessions with a link");
+    Ok(())
+}
+
+#[test]
 fn many_sessions_give_a_valid_report(rt: HostRuntime) -> Result<(), Fail> {
     let alloc = rt.alloc();
     let asked =
