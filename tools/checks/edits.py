@@ -8,7 +8,7 @@ from checks import TOP, NotTried, want
 sys.path.insert(0, os.path.join(TOP, "tools"))
 from tried import Sums, applied, crates, edits_of, record, stands  # noqa: E402
 
-MOST_AT_THE_GATE = 60
+MOST_AT_THE_GATE = 30
 
 
 def check_each_edit_can_be_applied():
