@@ -58,7 +58,7 @@ impl<'r, R: Net<Listener = TcpListener, Stream = TcpStream> + Eprint> Net for Te
 
 /// A [`TcpDoor`] that says which session begins.
 #[derive(Drop)]
-pub(crate) struct TellingDoor<'r, R> {
+pub(crate) struct TellingDoor<'r, R: Net<Listener = TcpListener, Stream = TcpStream> + Eprint> {
     door: TcpDoor<TellingNet<'r, R>>,
     rt: &'r R,
     given: u32,

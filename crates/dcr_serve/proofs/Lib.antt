@@ -1,1 +1,2 @@
 pub mod Giving
+mod ListeningLemmas

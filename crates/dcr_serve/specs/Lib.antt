@@ -1,6 +1,7 @@
 pub mod DeskModel
 pub mod DeskValue
 pub mod Left
+pub mod Listening
 pub mod ShareModel
 pub mod ShareValue
 pub mod TcpDoor

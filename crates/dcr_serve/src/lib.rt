@@ -4,6 +4,7 @@
 mod asking;
 mod counter;
 mod desk;
+mod listening;
 mod name;
 mod numbered;
 mod share;
@@ -12,6 +13,7 @@ mod tcp_door;
 mod tcp_link;
 
 pub use desk::Desk;
+pub use listening::{Accept, Listen};
 pub use name::DeskName;
 pub use numbered::Numbered;
 pub use share::DeskShare;

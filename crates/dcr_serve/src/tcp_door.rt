@@ -1,12 +1,14 @@
-ghost use Rattle.std.specs.Prelude.{◌≡◌, ◌≤◌, ◌+◌, Ok, None, IfOk, IsSome, IsNone, OnOk, OnErr};
+ghost use Rattle.std.specs.Prelude.{◌≡◌, ◌≢◌, ◌≤◌, ◌+◌, Ok, Err, None, IfOk, IsSome, IsNone, OnOk, OnErr};
 ghost use Rattle.std.specs.Io.Iter.{u64_saturate};
 ghost use Rattle.dcr_base.specs.Door.{GivesNext, IsFresh};
+ghost use Rattle.dcr_serve.specs.Listening.{Accepts, Asks, IsLocal, Listens, ToldAccept, is_lost};
 
 use crate::TcpLink;
+use crate::listening::{Accept, Listen};
 use dcr_base::{Door, Failed};
 use std::io;
 use std::io::ErrorKind;
-use std::net::{Ipv4Addr, Net, SocketAddr, SocketAddrV4, TcpListener, TcpStream};
+use std::net::{Ipv4Addr, SocketAddr, SocketAddrV4, TcpStream};
 
 // So many connections in a row that were lost before they were taken are passed over.
 const MOST_LOST: u32 = 1000;
@@ -17,25 +19,27 @@ const LOST: [i32; 10] = [1, 64, 71, 92, 95, 100, 101, 103, 112, 113];
 
 /// A [`Door`] that gives the connections to a port of 127.0.0.1, as they come. It listens from its first `next` on,
 /// which fails where the port can't be had, and is never shut. It tells no links, and counts failed calls in a `u64`
-/// that stops at its largest value. A call that a signal interrupted is tried again, at most 2^64 - 1 times in a row, and
-/// one that says that a connection was lost before it was taken, at most 1,000 times in a row; no other failure is. A
-/// connection that can't be made to send at once is closed, and the call has failed. No call takes memory.
+/// that stops at its largest value. A call that a signal interrupted is tried again, and so is one that says that a
+/// connection was lost before it was taken: of the latter at most 1,000 in a row, and 2^64 - 1 in all; no other failure is
+/// (`Asks`). A connection that can't be made to send at once is closed, and the call has failed. No call takes memory.
 ///
 /// This is a trusted edge: which connections come is not proved.
 #[derive(Drop)]
-pub struct TcpDoor<R> {
+pub struct TcpDoor<R: Listen> {
     rt: R,
     port: u16,
-    listener: Option<TcpListener>,
+    listener: Option<R::Listener>,
     faults: u64,
 }
 
-impl<R: Net<Listener = TcpListener, Stream = TcpStream>> TcpDoor<R> {
-    ghost use Rattle.dcr_serve.specs.TcpDoor.{port_of};
+impl<R: Listen> TcpDoor<R> {
+    ghost use Rattle.dcr_serve.specs.TcpDoor.{handle_of, listener_of, port_of};
 
     /// A door at this port. It doesn't listen yet.
     pub fn new(rt: R, port: u16) -> TcpDoor<R>
         ensures port { port_of result ≡ port }
+        ensures handle { handle_of result ≡ rt }
+        ensures unlistening { listener_of result ≡ None }
         ensures no_faults { ⟦<TcpDoor<R> as Door>⟧.faults result ≡ 0 }
     {
         TcpDoor {
@@ -48,47 +52,65 @@ impl<R: Net<Listener = TcpListener, Stream = TcpStream>> TcpDoor<R> {
 
     // The next connection, which sends at once. Listens where it doesn't yet.
     fn accept(&mut self) -> io::Result<TcpStream>
+        ensures asks { Asks R.answered R.Listener.answered self.old result self.new }
         ensures port { self.new.port ≡ self.old.port }
         ensures faults { self.new.faults ≡ self.old.faults }
     {
-        if self.listener.is_none() {
-            let address = SocketAddr::V4(SocketAddrV4::new(Ipv4Addr::LOCALHOST, self.port));
-            self.listener = Some(self.rt.bind(address)?);
+        if let Some(listener) = &mut self.listener {
+            return accept_sending(listener);
         }
-        match &self.listener {
-            Some(listener) => {
-                let stream = accept_next(listener)?;
-                stream.set_nodelay(true)?;
-                Ok(stream)
-            }
-            None => Err(io::Error::from(ErrorKind::NotFound)),
-        }
+        let mut listener = self.rt.listen_once(local(self.port))?;
+        let accepted = accept_sending(&mut listener);
+        self.listener = Some(listener);
+        accepted
     }
 }
 
+// This port of 127.0.0.1.
+fn local(port: u16) -> SocketAddr
+    ensures { IsLocal port result }
+{
+    SocketAddr::V4(SocketAddrV4::new(Ipv4Addr::LOCALHOST, port))
+}
+
+// One connection, which sends at once.
+fn accept_sending<L: Accept>(listener: &mut L) -> io::Result<TcpStream>
+    ensures { Accepts L.answered listener.old result listener.new }
+{
+    let stream = accept_next(listener)?;
+    stream.set_nodelay(true)?;
+    Ok(stream)
+}
+
 // One connection. Tried again where a signal interrupts it, and where one was lost before it was taken.
-fn accept_next(listener: &TcpListener) -> io::Result<TcpStream> {
+fn accept_next<L: Accept>(listener: &mut L) -> io::Result<TcpStream>
+    ensures { ToldAccept L.answered listener.old result listener.new }
+{
+    let mut times = 0;
     let mut lost = 0;
-    for _ in 0..u64::MAX {
-        match listener.accept() {
-            Ok((stream, _)) => return Ok(stream),
+    while times < u64::MAX {
+        match listener.accept_once() {
+            Ok(stream) => return Ok(stream),
             Err(e) if e.kind() == ErrorKind::Interrupted => {}
             Err(e) if is_lost(&e) && lost < MOST_LOST => lost += 1,
             Err(e) => return Err(e),
         }
+        times += 1;
     }
     Err(io::Error::from(ErrorKind::Interrupted))
 }
 
 // Whether the error is of one connection, and the next one may be taken.
-fn is_lost(error: &io::Error) -> bool {
+fn is_lost(error: &io::Error) -> bool
+    ensures { result ≡ is_lost error.now }
+{
     match error.raw_os_error() {
         Some(code) => LOST.contains(&code),
         None => false,
     }
 }
 
-impl<R: Net<Listener = TcpListener, Stream = TcpStream>> Door for TcpDoor<R> {
+impl<R: Listen> Door for TcpDoor<R> {
     ghost use Rattle.std.specs.Prelude.{None};
     ghost use Rattle.dcr_serve.specs.TcpDoor.{failed_calls, port_of};
 
@@ -113,6 +135,9 @@ impl<R: Net<Listener = TcpListener, Stream = TcpStream>> Door for TcpDoor<R> {
         // The count is exact.
         ensures ok_counts_none { OnOk result (failed_calls self.new ≡ failed_calls self.old) }
         ensures err_counts_one { OnErr result (failed_calls self.new ≡ u64_saturate (failed_calls self.old + 1)) }
+
+        // What the handle and the listener were asked.
+        ensures asks { Asks R.answered R.Listener.answered self.old result self.new }
     {
         match self.accept() {
             Ok(stream) => Ok(Some(TcpLink::new(stream))),
