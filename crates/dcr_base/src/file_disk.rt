@@ -55,6 +55,7 @@ impl<R: Files<File = File>> FileDisk<R> {
 
     /// A disk over the file. The file is not opened yet.
     pub fn new(alloc: Global, rt: R) -> FileDisk<R>
+        ensures unopened { (⟦<FileDisk<R> as Disk>⟧.view result).told ≡ false }
         ensures no_faults { ⟦<FileDisk<R> as Disk>⟧.faults result ≡ 0 }
     {
         FileDisk {
