@@ -59,7 +59,7 @@ is_read true o d e = (refl, e)
 is_read false o d e = absurd cc
 
 -- the strings of the value of bytes are UTF-8
-json_text : (bytes : List ℕ) (d : Data) → json_in bytes ≡ Some d → IsTextValue d
+pub json_text : (bytes : List ℕ) (d : Data) → json_in bytes ≡ Some d → IsTextValue d
 unfolding json_in
 json_text bytes d e = let p = is_read (is_utf8 bytes) (read bytes) d e in read_text bytes d (IsUtf8-from_is_utf8 bytes p.0) p.1
 
@@ -115,7 +115,7 @@ record HasTexts (node : Node) : Type 0 where
   label : is_label node.label ≡ true
   text : IsUtf8 node.label
 
-one_name : (name : List ℕ) → is_name name ≡ true → AreAllNames (name ∷ [])
+pub one_name : (name : List ℕ) → is_name name ≡ true → AreAllNames (name ∷ [])
 one_name name is = All-from_recursion (λ text. is_name text ≡ true) (name ∷ []) (is, tt)
 
 label_short : (event : Event) (label : Option (List ℕ)) → is_name event.name ≡ true → label ≡ event.label → HasShortLabel event → is_label (unwrap_or label event.name) ≡ true

@@ -2,3 +2,4 @@ mod StringLemmas
 mod ValueLemmas
 mod GivenLemmas
 mod FileLemmas
+mod VerdictLemmas
