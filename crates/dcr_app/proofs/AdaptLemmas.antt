@@ -1,11 +1,12 @@
 -- What `adapt` answers.
-use Rattle.std.proofs.Common.{◌≡◌, ◌≢◌, ◌⊎◌, ℕ, zero, suc, ◌+◌, ◌-◌, ◌<◌, ◌≤◌, arith, List, [], ◌∷◌, ◌++◌, length, drop, map, take, Option, Some, None, Result, Ok, Err, IfSome, inl, inr, refl, sym, ap, subst, ◌∙◌}
-use Rattle.std.specs.Prelude.{⊤}
+use Rattle.std.proofs.Common.{◌≡◌, ◌≢◌, ◌⊎◌, ℕ, zero, suc, ◌+◌, ◌-◌, ◌<◌, ◌≤◌, arith, List, [], ◌∷◌, ◌++◌, length, drop, map, take, Option, Some, None, Result, Ok, Err, inl, inr, refl, sym, ap, subst, ◌∙◌}
 use Rattle.std.specs.Io.KnownBytes.{Appends}
 use Rattle.std.specs.List.{All, slice_get}
 use Rattle.std.proofs.lemmas.List.{append-nil, length-append, take_all, take-append-le}
 use Rattle.std.proofs.lemmas.List.Elements.{All-cons, All-nil}
+use Rattle.dcr_base.specs.Count.{Rose}
 use Rattle.dcr_base.specs.Disk.{DiskView}
+use Rattle.dcr_base.specs.Side.{Side}
 use Rattle.dcr_base.specs.declared.status.Status.{Status}
 use Rattle.dcr_base.specs.declared.status.Status.TheVariants.{Done, Usage, Refused, ReadFault, WriteFault, NoMemory, DiskFault, Invalid, Full, TapeRefused, DoorFault}
 use Rattle.dcr_graph.specs.Cause.{waits}
@@ -28,24 +29,22 @@ use Rattle.dcr_engine.specs.Ran.{HasRun, cluster_of}
 use Rattle.dcr_json.specs.Built.{IsCase, case_of}
 use Rattle.dcr_json.specs.Judged.{Spelled}
 use Rattle.dcr_json.specs.declared.case.Case.{Case}
-use Rattle.dcr_json.specs.declared.case.CaseStop.TheVariants as stop
 use Rattle.dcr_report.specs.Report.{lines_text, report_lines, report_text, version_text}
 use Rattle.dcr_replay.specs.Laws.{IsReport}
 use Rattle.dcr_adapt.specs.Carried.{carried}
 use Rattle.dcr_adapt.specs.Stages.{stages_in}
 use Rattle.dcr_adapt.specs.declared.stop.StageStop.{StageStop}
 use Rattle.dcr_adapt.specs.declared.stop.StageStop.TheVariants as stage
-use Rattle.dcr_app.specs.Adapted.{AdaptRefusal, AnswersStages, BeginsAsWritten, BeginsAt, EndsStages, GoesOn, IsAdaptRefused, IsAnsweredStages, IsRunOfStage, IsToldOf, RanStage, RefusesStages, RunsStages, Stage, WroteReports, adapt_line, case_of_stage, ending_of, history_of, no_stages, report_of, reports_of, stage_line, stages_from, too_long}
+use Rattle.dcr_app.specs.Adapted.{AnswersStages, BeginsAsWritten, BeginsAt, EndsStages, GoesOn, IsAnsweredStages, IsRunOfStage, IsToldOf, RanStage, RunsStages, Stage, case_of_stage, ending_of, history_of, report_of, reports_of, stage_line, stages_from}
 use Rattle.dcr_app.specs.Headline.{rules_in}
-use Rattle.dcr_app.specs.Outside.{IsSilent, Stopped, WereLeft, Wrote}
-use Rattle.dcr_app.specs.Refusal.{case_line}
+use Rattle.dcr_app.specs.Outside.{Adds, IsStarved, Stopped, WereLeft, Wrote}
 use Rattle.dcr_app.specs.Telling.{atoms_in}
 use Rattle.dcr_app.specs.declared.answer.Answer.{Answer}
-use Rattle.dcr_app.proofs.ApartLemmas.{EndsApart}
-use Rattle.dcr_app.proofs.FaultlessLemmas.{due_or}
-use Rattle.dcr_app.proofs.OutsideLemmas.{appends_nothing, ends_as, longer_than, were_left, wrote_at}
+use Rattle.dcr_app.specs.declared.command.Command.TheVariants.{Adapt}
+use Rattle.dcr_app.proofs.OutsideLemmas.{HasEnded, appends_nothing, by_starved, by_wrote, due_or, seen, ended_silent, ended_with}
 use Rattle.dcr_app.proofs.OverLemmas.{off_stands}
 use Rattle.dcr_app.proofs.RunLemmas.{report_of_run}
+use Rattle.dcr_app.proofs.SaysLemmas.{SaysAt}
 
 -- ---- the stages from a case on
 
@@ -91,32 +90,36 @@ take_past (x ∷ xs) ys n =
     let same : length (x ∷ xs) + n ≡ suc (length xs + n) = omega arith in
     ap (λ k. take k (x ∷ (xs ++ ys))) same ∙ ap (λ (l : List ℕ). x ∷ l) (take_past xs ys n)
 
-stopped_behind : (x y : List ℕ) (had mid took : Option (List ℕ)) → Appends had mid x → Stopped y mid took → Stopped (x ++ y) had took
+stopped_behind : (x y : List ℕ) (had mid took : Side) → Appends had.bytes mid.bytes x → Stopped y mid took → Stopped (x ++ y) had took
 stopped_behind x y had mid took first it = record {
   count = length x + it.count;
   fewer = let all = length-append x y in let few = it.fewer in omega arith;
-  wrote = subst (λ (l : List ℕ). Appends had took l) (sym (take_past x y it.count)) (added_then had mid took x (take it.count y) first it.wrote);
+  wrote = subst (λ (l : List ℕ). Appends had.bytes took.bytes l) (sym (take_past x y it.count)) (added_then had.bytes mid.bytes took.bytes x (take it.count y) first it.wrote);
 }
 
--- a text was written, and another was due behind it
-wrote_behind : (x y : List ℕ) (status : Status) (had mid took : Option (List ℕ)) → Appends had mid x → Wrote Done y status mid took → Wrote Done (x ++ y) status had took
-wrote_behind x y WriteFault had mid took first it = stopped_behind x y had mid took first it
-wrote_behind x y NoMemory had mid took first it = stopped_behind x y had mid took first it
-wrote_behind x y Done had mid took first it = (it.0, added_then had mid took x y first it.1)
-wrote_behind x y Usage had mid took first it = (it.0, added_then had mid took x y first it.1)
-wrote_behind x y Refused had mid took first it = (it.0, added_then had mid took x y first it.1)
-wrote_behind x y ReadFault had mid took first it = (it.0, added_then had mid took x y first it.1)
-wrote_behind x y DiskFault had mid took first it = (it.0, added_then had mid took x y first it.1)
-wrote_behind x y Invalid had mid took first it = (it.0, added_then had mid took x y first it.1)
-wrote_behind x y Full had mid took first it = (it.0, added_then had mid took x y first it.1)
-wrote_behind x y TapeRefused had mid took first it = (it.0, added_then had mid took x y first it.1)
-wrote_behind x y DoorFault had mid took first it = (it.0, added_then had mid took x y first it.1)
+adds_behind : (x y : List ℕ) (had mid took : Side) → Adds x had mid → Adds y mid took → Adds (x ++ y) had took
+adds_behind x y had mid took first then = (added_then had.bytes mid.bytes took.bytes x y first.0 then.0, then.1 ∙ first.1)
 
-stopped_before : (x y : List ℕ) (had took : Option (List ℕ)) → Stopped x had took → Stopped (x ++ y) had took
+-- a text was written, and another was due behind it
+wrote_behind : (x y : List ℕ) (status : Status) (had mid took : Side) → Adds x had mid → Wrote Done y status mid took → Wrote Done (x ++ y) status had took
+wrote_behind x y WriteFault had mid took first it =
+    (stopped_behind x y had mid took first.0 it.0, (let same = first.1 in let more = it.1 in omega arith), subst (λ n. Rose n took.faults) first.1 it.2)
+wrote_behind x y NoMemory had mid took first it = (stopped_behind x y had mid took first.0 it.0, it.1 ∙ first.1)
+wrote_behind x y Done had mid took first it = (it.0, adds_behind x y had mid took first it.1)
+wrote_behind x y Usage had mid took first it = (it.0, adds_behind x y had mid took first it.1)
+wrote_behind x y Refused had mid took first it = (it.0, adds_behind x y had mid took first it.1)
+wrote_behind x y ReadFault had mid took first it = (it.0, adds_behind x y had mid took first it.1)
+wrote_behind x y DiskFault had mid took first it = (it.0, adds_behind x y had mid took first it.1)
+wrote_behind x y Invalid had mid took first it = (it.0, adds_behind x y had mid took first it.1)
+wrote_behind x y Full had mid took first it = (it.0, adds_behind x y had mid took first it.1)
+wrote_behind x y TapeRefused had mid took first it = (it.0, adds_behind x y had mid took first it.1)
+wrote_behind x y DoorFault had mid took first it = (it.0, adds_behind x y had mid took first it.1)
+
+stopped_before : (x y : List ℕ) (had took : Side) → Stopped x had took → Stopped (x ++ y) had took
 stopped_before x y had took it = record {
   count = it.count;
   fewer = let all = length-append x y in let few = it.fewer in omega arith;
-  wrote = subst (λ (l : List ℕ). Appends had took l) (sym (take-append-le it.count x y (let few = it.fewer in omega arith))) it.wrote;
+  wrote = subst (λ (l : List ℕ). Appends had.bytes took.bytes l) (sym (take-append-le it.count x y (let few = it.fewer in omega arith))) it.wrote;
 }
 
 -- ---- a stage that was run
@@ -198,24 +201,24 @@ no_legal : All (λ (s : Stage). IsReport (report_of s) (length (history_of s))) 
 no_legal = All-nil (λ (s : Stage). IsReport (report_of s) (length (history_of s)))
 
 -- none
-pub runs_none : (case : Spelled) (M : Marking) (rest : List Spelled) (before : Option Closed) (had : Option (List ℕ)) → RunsStages (stages_from case M rest) before had had NoMemory before
+pub runs_none : (case : Spelled) (M : Marking) (rest : List Spelled) (before : Option Closed) (had : Side) → RunsStages (stages_from case M rest) before had had NoMemory before
 runs_none case M rest before had = record {
   count = 0;
   within = omega arith;
   all = λ done. absurd (let wrong : NoMemory ≡ Done = done in cc);
   told = refl;
-  wrote = record { count = 0; fewer = some_reports case M rest; wrote = appends_nothing had };
+  wrote = (record { count = 0; fewer = some_reports case M rest; wrote = appends_nothing had.bytes }, refl);
   reach = 0;
   far = omega arith;
   near = omega arith;
   cut = λ failed. absurd (let wrong : NoMemory ≡ WriteFault = failed in cc);
-  front = appends_nothing had;
+  front = appends_nothing had.bytes;
   legal = no_legal;
 }
 
 -- one, of which so much of the report was written
-runs_one : (s : Stage) (rest : List Stage) (closed : Closed) (before : Option Closed) (had took : Option (List ℕ)) (status : Status) (n : ℕ) → (status ≡ Done → 1 ≡ length (s ∷ rest)) → IsRunOfStage s closed
-    → IsReport (report_of s) (length (history_of s)) → Wrote Done (reports_of (s ∷ rest)) status had took → n ≤ length (report_of s) → (status ≡ WriteFault → n < length (report_of s)) → Appends had took (take n (report_of s))
+runs_one : (s : Stage) (rest : List Stage) (closed : Closed) (before : Option Closed) (had took : Side) (status : Status) (n : ℕ) → (status ≡ Done → 1 ≡ length (s ∷ rest)) → IsRunOfStage s closed
+    → IsReport (report_of s) (length (history_of s)) → Wrote Done (reports_of (s ∷ rest)) status had took → n ≤ length (report_of s) → (status ≡ WriteFault → n < length (report_of s)) → Appends had.bytes took.bytes (take n (report_of s))
     → RunsStages (s ∷ rest) before had took status (Some closed)
 runs_one s rest closed before had took status n all ran legal wrote within cut front =
     let same : report_of s ++ [] ≡ report_of s = append-nil (report_of s) in record {
@@ -228,17 +231,17 @@ runs_one s rest closed before had took status n all ran legal wrote within cut f
       far = omega arith;
       near = subst (λ (l : List ℕ). n ≤ length l) (sym same) within;
       cut = λ failed. subst (λ (l : List ℕ). n < length l) (sym same) (cut failed);
-      front = subst (λ (l : List ℕ). Appends had took (take n l)) (sym same) front;
+      front = subst (λ (l : List ℕ). Appends had.bytes took.bytes (take n l)) (sym same) front;
       legal = All-cons (λ (x : Stage). IsReport (report_of x) (length (history_of x))) s [] legal no_legal;
     }
 
 -- one, whose report was not written to its end
-pub runs_stopped : (s : Stage) (rest : List Stage) (closed : Closed) (before : Option Closed) (had took : Option (List ℕ)) (status : Status) → IsRunOfStage s closed
+pub runs_stopped : (s : Stage) (rest : List Stage) (closed : Closed) (before : Option Closed) (had took : Side) (status : Status) → IsRunOfStage s closed
     → IsReport (report_of s) (length (history_of s)) → Wrote Done (report_of s) status had took → status ≢ Done → RunsStages (s ∷ rest) before had took status (Some closed)
 runs_stopped s rest closed before had took WriteFault ran legal it other =
-    runs_one s rest closed before had took WriteFault it.count (λ done. absurd (let wrong : WriteFault ≡ Done = done in cc)) ran legal (stopped_before (report_of s) (reports_of rest) had took it) (let few = it.fewer in omega arith) (λ failed. it.fewer) it.wrote
+    runs_one s rest closed before had took WriteFault it.0.count (λ done. absurd (let wrong : WriteFault ≡ Done = done in cc)) ran legal (stopped_before (report_of s) (reports_of rest) had took it.0, it.1, it.2) (let few = it.0.fewer in omega arith) (λ failed. it.0.fewer) it.0.wrote
 runs_stopped s rest closed before had took NoMemory ran legal it other =
-    runs_one s rest closed before had took NoMemory it.count (λ done. absurd (let wrong : NoMemory ≡ Done = done in cc)) ran legal (stopped_before (report_of s) (reports_of rest) had took it) (let few = it.fewer in omega arith) (λ failed. it.fewer) it.wrote
+    runs_one s rest closed before had took NoMemory it.0.count (λ done. absurd (let wrong : NoMemory ≡ Done = done in cc)) ran legal (stopped_before (report_of s) (reports_of rest) had took it.0, it.1) (let few = it.0.fewer in omega arith) (λ failed. it.0.fewer) it.0.wrote
 runs_stopped s rest closed before had took Done ran legal it other = absurd (other it.0)
 runs_stopped s rest closed before had took Usage ran legal it other = absurd (other it.0)
 runs_stopped s rest closed before had took Refused ran legal it other = absurd (other it.0)
@@ -250,27 +253,29 @@ runs_stopped s rest closed before had took TapeRefused ran legal it other = absu
 runs_stopped s rest closed before had took DoorFault ran legal it other = absurd (other it.0)
 
 -- one, which is the last
-pub runs_last : (s : Stage) (closed : Closed) (before : Option Closed) (had took : Option (List ℕ)) → IsRunOfStage s closed → IsReport (report_of s) (length (history_of s))
-    → Appends had took (report_of s) → RunsStages (s ∷ []) before had took Done (Some closed)
+pub runs_last : (s : Stage) (closed : Closed) (before : Option Closed) (had took : Side) → IsRunOfStage s closed → IsReport (report_of s) (length (history_of s))
+    → Adds (report_of s) had took → RunsStages (s ∷ []) before had took Done (Some closed)
 runs_last s closed before had took ran legal wrote =
     let same : report_of s ++ [] ≡ report_of s = append-nil (report_of s) in
-    runs_one s [] closed before had took Done (length (report_of s)) (λ done. refl) ran legal (refl, subst (λ (l : List ℕ). Appends had took l) (sym same) wrote) (omega arith)
+    runs_one s [] closed before had took Done (length (report_of s)) (λ done. refl) ran legal (refl, subst (λ (l : List ℕ). Adds l had took) (sym same) wrote) (omega arith)
     (λ failed. absurd (let wrong : Done ≡ WriteFault = failed in cc))
-    (subst (λ (l : List ℕ). Appends had took l) (sym (take_all (length (report_of s)) (report_of s) (omega arith))) wrote)
+    (subst (λ (l : List ℕ). Appends had.bytes took.bytes l) (sym (take_all (length (report_of s)) (report_of s) (omega arith))) wrote.0)
 
 -- one, behind which memory ran out
-pub runs_starved : (s : Stage) (case : Spelled) (M : Marking) (rest : List Spelled) (closed : Closed) (before : Option Closed) (had took : Option (List ℕ)) → IsRunOfStage s closed
-    → IsReport (report_of s) (length (history_of s)) → Appends had took (report_of s) → RunsStages (s ∷ stages_from case M rest) before had took NoMemory (Some closed)
+pub runs_starved : (s : Stage) (case : Spelled) (M : Marking) (rest : List Spelled) (closed : Closed) (before : Option Closed) (had took : Side) → IsRunOfStage s closed
+    → IsReport (report_of s) (length (history_of s)) → Adds (report_of s) had took → RunsStages (s ∷ stages_from case M rest) before had took NoMemory (Some closed)
 runs_starved s case M rest closed before had took ran legal wrote =
     let x = report_of s in let y = reports_of (stages_from case M rest) in
     let full : take (length x) x ≡ x = take_all (length x) x (omega arith) in
-    runs_one s (stages_from case M rest) closed before had took NoMemory (length x) (λ done. absurd (let wrong : NoMemory ≡ Done = done in cc)) ran legal
-    (record {
-      count = length x;
-      fewer = let all = length-append x y in let some = some_reports case M rest in omega arith;
-      wrote = subst (λ (l : List ℕ). Appends had took l) (sym (take-append-le (length x) x y (omega arith) ∙ full)) wrote;
-    })
-    (omega arith) (λ failed. absurd (let wrong : NoMemory ≡ WriteFault = failed in cc)) (subst (λ (l : List ℕ). Appends had took l) (sym full) wrote)
+    runs_one s (stages_from case M rest) closed before had took NoMemory (length x) (λ done. absurd (let wrong : NoMemory ≡ Done = done in cc)) ran legal (
+      record {
+        count = length x;
+        fewer = let all = length-append x y in let some = some_reports case M rest in omega arith;
+        wrote = subst (λ (l : List ℕ). Appends had.bytes took.bytes l) (sym (take-append-le (length x) x y (omega arith) ∙ full)) wrote.0;
+      },
+      wrote.1,
+    )
+    (omega arith) (λ failed. absurd (let wrong : NoMemory ≡ WriteFault = failed in cc)) (subst (λ (l : List ℕ). Appends had.bytes took.bytes l) (sym full) wrote.0)
 
 told_more : (s : Stage) (rest : List Stage) (closed : Closed) (before : Option Closed) (count : ℕ) (told_run : Option Closed) → IsRunOfStage s closed
     → IsToldOf rest (Some closed) count told_run → IsToldOf (s ∷ rest) before (suc count) told_run
@@ -285,8 +290,8 @@ far_more s rest (suc k) reach far =
     let fits : length (reports_of (take k rest)) ≤ reach = subst (λ n. length (reports_of (take n rest)) ≤ reach) here far in omega arith
 
 -- one, and then so many of those behind it
-pub runs_more : (s : Stage) (rest : List Stage) (closed : Closed) (before : Option Closed) (had mid took : Option (List ℕ)) (status : Status) (told_run : Option Closed) → IsRunOfStage s closed
-    → IsReport (report_of s) (length (history_of s)) → Appends had mid (report_of s) → RunsStages rest (Some closed) mid took status told_run → RunsStages (s ∷ rest) before had took status told_run
+pub runs_more : (s : Stage) (rest : List Stage) (closed : Closed) (before : Option Closed) (had mid took : Side) (status : Status) (told_run : Option Closed) → IsRunOfStage s closed
+    → IsReport (report_of s) (length (history_of s)) → Adds (report_of s) had mid → RunsStages rest (Some closed) mid took status told_run → RunsStages (s ∷ rest) before had took status told_run
 runs_more s rest closed before had mid took status told_run ran legal wrote more =
     let x = report_of s in let y = reports_of (take more.count rest) in
     let here : suc more.count - 1 ≡ more.count = omega arith in record {
@@ -299,7 +304,7 @@ runs_more s rest closed before had mid took status told_run ran legal wrote more
       far = subst (λ n. length (reports_of (take n (s ∷ rest))) ≤ length x + more.reach) (sym here) (far_more s rest more.count more.reach more.far);
       near = let all = length-append x y in let near = more.near in omega arith;
       cut = λ failed. let all = length-append x y in let cut = more.cut failed in omega arith;
-      front = subst (λ (l : List ℕ). Appends had took l) (sym (take_past x y more.reach)) (added_then had mid took x (take more.reach y) wrote more.front);
+      front = subst (λ (l : List ℕ). Appends had.bytes took.bytes l) (sym (take_past x y more.reach)) (added_then had.bytes mid.bytes took.bytes x (take more.reach y) wrote.0 more.front);
       legal = All-cons (λ (t : Stage). IsReport (report_of t) (length (history_of t))) s (take more.count rest) legal more.legal;
     }
 
@@ -315,25 +320,25 @@ module _ (case : Case) (M : Marking) (closed : Closed) (is : IsCase case) (ran :
   legal_here : IsReport (report_of here) (length (history_of here))
   legal_here = legal_stage case M closed is ran
 
-  due_here : (had took : Option (List ℕ)) (status : Status) → Wrote Done (report_text case.nested case.cover closed.opening closed.history.entries) status had took
+  due_here : (had took : Side) (status : Status) → Wrote Done (report_text case.nested case.cover closed.opening closed.history.entries) status had took
       → Wrote Done (report_of here) status had took
   due_here had took status wrote = subst (λ (l : List ℕ). Wrote Done l status had took) (report_is here closed ran_here) wrote
 
   -- its report was not written to its end
-  pub stops_here : (rest : List Spelled) (had took : Option (List ℕ)) (status : Status) → Wrote Done (report_text case.nested case.cover closed.opening closed.history.entries) status had took
+  pub stops_here : (rest : List Spelled) (had took : Side) (status : Status) → Wrote Done (report_text case.nested case.cover closed.opening closed.history.entries) status had took
       → status ≢ Done → RunsStages (stages_from (case_of case) M rest) before had took status (Some closed)
   stops_here [] had took status wrote other = runs_stopped here [] closed before had took status ran_here legal_here (due_here had took status wrote) other
   stops_here (next ∷ rest) had took status wrote other =
       runs_stopped here (stages_from next _ rest) closed before had took status ran_here legal_here (due_here had took status wrote) other
 
   -- it is the last
-  pub ends_here : (rest : List Spelled) (had took : Option (List ℕ)) → rest ≡ [] → Wrote Done (report_text case.nested case.cover closed.opening closed.history.entries) Done had took
+  pub ends_here : (rest : List Spelled) (had took : Side) → rest ≡ [] → Wrote Done (report_text case.nested case.cover closed.opening closed.history.entries) Done had took
       → RunsStages (stages_from (case_of case) M rest) before had took Done (Some closed)
   ends_here [] had took none wrote = runs_last here closed before had took ran_here legal_here (due_here had took Done wrote).1
   ends_here (next ∷ rest) had took none wrote = absurd cc
 
   -- memory ran out behind it
-  pub starves_here : (rest : List Spelled) (next : Spelled) (more : List Spelled) (had took : Option (List ℕ)) → rest ≡ next ∷ more
+  pub starves_here : (rest : List Spelled) (next : Spelled) (more : List Spelled) (had took : Side) → rest ≡ next ∷ more
       → Wrote Done (report_text case.nested case.cover closed.opening closed.history.entries) Done had took
       → RunsStages (stages_from (case_of case) M rest) before had took NoMemory (Some closed)
   starves_here rest next more had took same wrote =
@@ -355,7 +360,7 @@ module _ (case : Case) (M : Marking) (closed : Closed) (is : IsCase case) (ran :
       ∙ ap (λ (O : Marking). carried (atoms_in (case_of case)) O (atoms_in (case_of next)) next.opening) end))
 
   -- those behind it were run
-  pub goes_on_here : (rest : List Spelled) (next : Case) (more : List Spelled) (N : Marking) (had mid took : Option (List ℕ)) (status : Status) (told_run : Option Closed) → rest ≡ case_of next ∷ more
+  pub goes_on_here : (rest : List Spelled) (next : Case) (more : List Spelled) (N : Marking) (had mid took : Side) (status : Status) (told_run : Option Closed) → rest ≡ case_of next ∷ more
       → N ≡ carried (atoms_in (case_of case)) (ending_of here) (atoms_in (case_of next)) next.opening
       → Wrote Done (report_text case.nested case.cover closed.opening closed.history.entries) Done had mid
       → RunsStages (stages_from (case_of next) N more) (Some closed) mid took status told_run → RunsStages (stages_from (case_of case) M rest) before had took status told_run
@@ -366,135 +371,73 @@ module _ (case : Case) (M : Marking) (closed : Closed) (is : IsCase case) (ran :
       (subst (λ (P : Marking). RunsStages (stages_from (case_of next) P more) (Some closed) mid took status told_run) begins runs))
 
 -- what an answer ends with
-pub ends_as_told : (stages : List Stage) (before : Option Closed) (had took : Option (List ℕ)) (status : Status) (told_run : Option Closed) (end : Answer)
-    → end ≡ record { status = status; closed = told_run; world = None } → RunsStages stages before had took status told_run → RunsStages stages before had took end.status end.closed
+pub ends_as_told : (stages : List Stage) (before : Option Closed) (had took : Side) (status : Status) (told_run : Option Closed) (end : Answer)
+    → end ≡ record { status = status; closed = told_run } → RunsStages stages before had took status told_run → RunsStages stages before had took end.status end.closed
 ends_as_told stages before had took status told_run end same runs =
     subst (λ (e : Answer). RunsStages stages before had took e.status e.closed) (sym same) runs
 
--- with Done all of them were
-pub wrote_all : (stages : List Stage) (before : Option Closed) (had took : Option (List ℕ)) (status : Status) (told_run : Option Closed) → RunsStages stages before had took status told_run → status ≡ Done
-    → WroteReports had took
-wrote_all stages before had took status told_run it done = record {
-  stages = stages;
-  wrote = (wrote_at Done (reports_of stages) status Done had took done tt it.wrote).1;
-  legal = subst (λ (l : List Stage). All (λ (s : Stage). IsReport (report_of s) (length (history_of s))) l) (take_all it.count stages (let all = it.all done in omega arith)) it.legal;
-}
-
 -- ---- answers
 
-refused_with : (left : Option (List ℕ)) (has_ended : Type 0) (bytes : List ℕ) (why : AdaptRefusal) (had took : Option (List ℕ)) (status : Status) (told_run : Option Closed) → told_run ≡ None
-    → WereLeft left bytes → IsAdaptRefused bytes why → IsSilent status had took ⊎ Wrote Refused (adapt_line why) status had took → AnswersStages left has_ended had took status told_run
-refused_with left has_ended bytes why had took status told_run none read refuses (inl silent) = inl (none, inl silent)
-refused_with left has_ended bytes why had took status told_run none read refuses (inr wrote) =
-    inl (none, inr (record { bytes = bytes; read = read; why = why; refuses = refuses; line = wrote }))
-
-pub too_long_stages : (left : Option (List ℕ)) (has_ended : Type 0) (had took : Option (List ℕ)) (status : Status) (told_run : Option Closed) → told_run ≡ None
-    → IfSome left (λ bytes. 16777216 < length bytes) → IsSilent status had took ⊎ Wrote Refused (case_line stop.TooLong) status had took → AnswersStages left has_ended had took status told_run
-too_long_stages None has_ended had took status told_run none more line =
-    let it = longer_than 16777216 in refused_with None has_ended it.0 too_long had took status told_run none tt it.1 line
-too_long_stages (Some bytes) has_ended had took status told_run none more line = refused_with (Some bytes) has_ended bytes too_long had took status told_run none refl more line
-
 -- the lines are no stages
-pub stopped_stages : (bytes : List ℕ) (why : StageStop) (had took : Option (List ℕ)) (status : Status) (told_run : Option Closed) → told_run ≡ None → length bytes ≤ 16777216
-    → (why ≢ stage.NoMemory → stages_in bytes ≡ Err why) → IsSilent status had took ⊎ ((why ≢ stage.NoMemory) × Wrote Refused (stage_line why) status had took)
-    → AnswersStages (Some bytes) ⊤ had took status told_run
-stopped_stages bytes why had took status told_run none short refuses (inl silent) = inl (none, inl silent)
-stopped_stages bytes why had took status told_run none short refuses (inr it) =
-    refused_with (Some bytes) ⊤ bytes (no_stages why) had took status told_run none refl (short, refuses it.0, it.0) (inr it.1)
+pub stopped_stages : (bytes : List ℕ) (why : StageStop) (had took : Side) (status : Status) (end : Answer) → end ≡ record { status = status; closed = None }
+    → (why ≢ stage.NoMemory → stages_in bytes ≡ Err why) → IsStarved status had took ⊎ ((why ≢ stage.NoMemory) × Wrote Refused (stage_line why) status had took)
+    → AnswersStages bytes had took end.status end.closed
+stopped_stages bytes why had took status end is refuses told = subst (λ (e : Answer). AnswersStages bytes had took e.status e.closed) (sym is) (stopped told)
+  where
+    stopped : IsStarved status had took ⊎ ((why ≢ stage.NoMemory) × Wrote Refused (stage_line why) status had took) → AnswersStages bytes had took status None
+    stopped (inl starved) = inl (refl, inl starved)
+    stopped (inr it) = inl (refl, inr (record { why = why; refuses = refuses it.0; named = it.0; line = it.1 }))
 
 -- they are, and were run
-pub told_stages : (bytes : List ℕ) (case : Spelled) (rest : List Spelled) (had took : Option (List ℕ)) (status : Status) (told_run : Option Closed) → length bytes ≤ 16777216
-    → stages_in bytes ≡ Ok (case ∷ rest) → RunsStages (stages_from case case.opening rest) None had took status told_run → AnswersStages (Some bytes) ⊤ had took status told_run
-told_stages bytes case rest had took status told_run short spelled runs = inr (record {
+pub told_stages : (bytes : List ℕ) (case : Spelled) (rest : List Spelled) (had took : Side) (status : Status) (told_run : Option Closed)
+    → stages_in bytes ≡ Ok (case ∷ rest) → RunsStages (stages_from case case.opening rest) None had took status told_run → AnswersStages bytes had took status told_run
+told_stages bytes case rest had took status told_run spelled runs = inr (record {
   stages = stages_from case case.opening rest;
-  input = (bytes, refl, short, spelled ∙ ap Ok (sym (cases_from case case.opening rest)), tt);
+  spelled = spelled ∙ ap Ok (sym (cases_from case case.opening rest));
   first = begins_as_written case rest;
   next = goes_on_from case case.opening rest;
   runs = runs;
 })
 
--- from the bytes to what the input had left
-pub stages_left : (left : Option (List ℕ)) (has_ended : Type 0) (bytes : List ℕ) (had took : Option (List ℕ)) (status : Status) (told_run : Option Closed) → IfSome left (λ it. bytes ≡ it) → has_ended
-    → AnswersStages (Some bytes) ⊤ had took status told_run → AnswersStages left has_ended had took status told_run
-stages_left left has_ended bytes had took status told_run same ended (inl (none, inl silent)) = inl (none, inl silent)
-stages_left left has_ended bytes had took status told_run same ended (inl (none, inr it)) =
-    inl (none, inr (record { bytes = bytes; read = were_left left bytes same; why = it.why; refuses = subst (λ b. IsAdaptRefused b it.why) (sym it.read) it.refuses; line = it.line }))
-stages_left left has_ended bytes had took status told_run same ended (inr it) = inr (record {
-  stages = it.stages;
-  input = (it.input.0, subst (WereLeft left) it.input.1 (were_left left bytes same), it.input.2, it.input.3, ended);
-  first = it.first;
-  next = it.next;
-  runs = it.runs;
-})
+-- ---- how it ended
 
--- ---- what is known of its end
+pub stages_ended : (bytes : List ℕ) (had took : Side) (status : Status) (told_run : Option Closed) → AnswersStages bytes had took status told_run → HasEnded status had took
+stages_ended bytes had took status told_run (inl (none, inl starved)) = ended_silent (inl starved.0) starved.1
+stages_ended bytes had took status told_run (inl (none, inr it)) = ended_with Refused (stage_line it.why) tt it.line
+stages_ended bytes had took status told_run (inr it) = ended_with Done (reports_of it.stages) tt it.runs.wrote
 
-ended_by : (due : Status) (text : List ℕ) (status : Status) (had took : Option (List ℕ)) → EndsApart due → Wrote due text status had took → EndsApart status
-ended_by due text status had took fine wrote = elim (ends_as due text status had took wrote) [
-  | inl e ↦ subst EndsApart (sym e) fine
+-- what the status says
+pub stages_say : (before after : DiskView) (left : Option (List ℕ)) (bytes : List ℕ) (had took : Side) (status : Status) (told_run : Option Closed) → WereLeft left bytes
+    → AnswersStages bytes had took status told_run → SaysAt (Some Adapt) before after left had took told_run status
+stages_say before after left bytes had took status told_run read (inl (none, inl starved)) = by_starved (SaysAt (Some Adapt) before after left had took told_run) tt status had took starved
+stages_say before after left bytes had took status told_run read (inl (none, inr it)) =
+    by_wrote (SaysAt (Some Adapt) before after left had took told_run) tt tt Refused (stage_line it.why) status had took it.line
+    (λ adds. (Adapt, refl, inr (bytes, read, (it.why, it.refuses, it.named, adds.0))))
+stages_say before after left bytes had took status told_run read (inr it) = elim (seen Done (reports_of it.stages) status had took it.runs.wrote) [
+  | inl e ↦ subst (SaysAt (Some Adapt) before after left had took told_run) (sym e.0) (record {
+    stages = it.stages;
+    wrote = e.1.0;
+    legal = subst (λ (l : List Stage). All (λ (s : Stage). IsReport (report_of s) (length (history_of s))) l)
+        (take_all it.runs.count it.stages (let all = it.runs.all e.0 in omega arith)) it.runs.legal;
+  })
   | inr other ↦ elim other [
-    | inl e ↦ subst EndsApart (sym e) tt
-    | inr e ↦ subst EndsApart (sym e) tt
+    | inl e ↦ subst (SaysAt (Some Adapt) before after left had took told_run) (sym e.0) tt
+    | inr e ↦ subst (SaysAt (Some Adapt) before after left had took told_run) (sym e.0) tt
   ]
 ]
 
-pub stages_end : (left : Option (List ℕ)) (has_ended : Type 0) (had took : Option (List ℕ)) (status : Status) (told_run : Option Closed) → AnswersStages left has_ended had took status told_run
-    → EndsApart status
-stages_end left has_ended had took status told_run (inl (none, inl silent)) = elim silent.0 [
-  | inl e ↦ subst EndsApart (sym e) tt
-  | inr e ↦ subst EndsApart (sym e) tt
-]
-stages_end left has_ended had took status told_run (inl (none, inr it)) = ended_by Refused (adapt_line it.why) status had took tt it.line
-stages_end left has_ended had took status told_run (inr it) = ended_by Done (reports_of it.stages) status had took tt it.runs.wrote
-
--- with Refused the line of the first refusal was written
-pub refuses_stages : (left : Option (List ℕ)) (has_ended : Type 0) (had took : Option (List ℕ)) (status : Status) (told_run : Option Closed) → AnswersStages left has_ended had took status told_run
-    → status ≡ Refused → RefusesStages left had took
-refuses_stages left has_ended had took status told_run (inl (none, inl silent)) is = elim silent.0 [
-  | inl e ↦ absurd (let wrong : Refused ≡ ReadFault = sym is ∙ e in cc)
-  | inr e ↦ absurd (let wrong : Refused ≡ NoMemory = sym is ∙ e in cc)
-]
-refuses_stages left has_ended had took status told_run (inl (none, inr it)) is =
-    (it.bytes, it.read, (it.why, it.refuses, (wrote_at Refused (adapt_line it.why) status Refused had took is tt it.line).1))
-refuses_stages left has_ended had took status told_run (inr it) is =
-    absurd (let wrong : Refused ≡ Done = (wrote_at Done (reports_of it.stages) status Refused had took is tt it.runs.wrote).0 in cc)
-
--- with Done the reports are of legal histories
-pub reports_by : (left : Option (List ℕ)) (has_ended : Type 0) (had took : Option (List ℕ)) (status : Status) (told_run : Option Closed) → AnswersStages left has_ended had took status told_run
-    → status ≡ Done → WroteReports had took
-reports_by left has_ended had took status told_run (inl (none, inl silent)) done = elim silent.0 [
-  | inl e ↦ absurd (let wrong : Done ≡ ReadFault = sym done ∙ e in cc)
-  | inr e ↦ absurd (let wrong : Done ≡ NoMemory = sym done ∙ e in cc)
-]
-reports_by left has_ended had took status told_run (inl (none, inr it)) done =
-    absurd (let wrong : Done ≡ Refused = (wrote_at Refused (adapt_line it.why) status Done had took done tt it.line).0 in cc)
-reports_by left has_ended had took status told_run (inr it) done = wrote_all it.stages None had took status told_run it.runs done
-
--- ---- what an input and an output that don't fail end with
-
-starved_stages : (r : Result (List Spelled) StageStop) (status : Status) → status ≡ NoMemory → EndsStages r status
+-- what an input and an output that don't fail end with
+pub starved_stages : (r : Result (List Spelled) StageStop) (status : Status) → status ≡ NoMemory → EndsStages r status
 starved_stages (Err why) status e = inr e
 starved_stages (Ok cases) status e = inr e
 
-refused_end : (bytes : List ℕ) (why : AdaptRefusal) (status : Status) → IsAdaptRefused bytes why → (status ≡ Refused) ⊎ (status ≡ NoMemory) → IsAnsweredStages bytes status
-refused_end bytes too_long status more ends = record { long = λ _. ends; short = λ few. absurd (omega (arith, more, few)) }
-refused_end bytes (no_stages why) status it ends = record {
-  long = λ more. let few = it.0 in absurd (omega arith);
-  short = λ few. subst (λ (r : Result (List Spelled) StageStop). EndsStages r status) (sym it.1) ends;
-}
-
-pub answered_stages : (left : Option (List ℕ)) (has_ended : Type 0) (had took : Option (List ℕ)) (status : Status) (told_run : Option Closed) → (status ≡ ReadFault → ⊥) → (status ≡ WriteFault → ⊥)
-    → AnswersStages left has_ended had took status told_run → IfSome left (λ bytes. IsAnsweredStages bytes status)
-answered_stages None has_ended had took status told_run reads writes it = tt
-answered_stages (Some bytes) has_ended had took status told_run reads writes (inl (none, inl silent)) = elim silent.0 [
-  | inl e ↦ absurd (reads e)
-  | inr e ↦ record { long = λ _. inr e; short = λ _. starved_stages (stages_in bytes) status e }
-]
-answered_stages (Some bytes) has_ended had took status told_run reads writes (inl (none, inr it)) =
-    refused_end bytes it.why status (subst (λ b. IsAdaptRefused b it.why) (sym it.read) it.refuses) (due_or Refused (adapt_line it.why) status had took writes it.line)
-answered_stages (Some bytes) has_ended had took status told_run reads writes (inr it) =
-    let ends = due_or Done (reports_of it.stages) status had took writes it.runs.wrote in
-    subst (λ b. IsAnsweredStages b status) (sym it.input.1) (record {
-      long = λ more. let few = it.input.2 in absurd (omega (arith, more, few));
-      short = λ few. subst (λ (r : Result (List Spelled) StageStop). EndsStages r status) (sym it.input.3) ends;
-    })
+pub stages_end : (bytes : List ℕ) (had took : Side) (status : Status) (told_run : Option Closed) → length bytes ≤ 16777216 → (status ≡ WriteFault → ⊥)
+    → AnswersStages bytes had took status told_run → IsAnsweredStages bytes status
+stages_end bytes had took status told_run few writes it = record { long = λ more. absurd (omega (arith, more, few)); short = λ _. short it }
+  where
+    short : AnswersStages bytes had took status told_run → EndsStages (stages_in bytes) status
+    short (inl (none, inl starved)) = starved_stages (stages_in bytes) status starved.0
+    short (inl (none, inr stop)) =
+        subst (λ (r : Result (List Spelled) StageStop). EndsStages r status) (sym stop.refuses) (due_or Refused (stage_line stop.why) status had took writes stop.line)
+    short (inr runs) =
+        subst (λ (r : Result (List Spelled) StageStop). EndsStages r status) (sym runs.spelled) (due_or Done (reports_of runs.stages) status had took writes runs.runs.wrote)

@@ -1,12 +1,10 @@
 -- The number that a word spells.
-use Rattle.std.proofs.Common.{◌≡◌, ℕ, ◌<◌, ◌≤◌, ◌+◌, ◌^◌, arith, Bool, true, false, ◌&&◌, nat_le, List, decimal, Option, Some, None, refl, sym, ap, subst, ◌∙◌}
+use Rattle.std.proofs.Common.{◌≡◌, ℕ, ◌<◌, ◌≤◌, ◌+◌, ◌^◌, arith, Bool, true, false, ◌&&◌, nat_le, List, decimal, Some, None, refl, sym, ap, subst, ◌∙◌}
 use Rattle.std.specs.Str.{bytes_eq}
 use Rattle.std.proofs.lemmas.Bool.{le-leb, leb-true}
 use Rattle.std.proofs.lemmas.Slice.Eq.{bytes_eq-Decides}
 use Rattle.dcr_set.proofs.LeastLemmas.{least-from, least-none_from}
 use Rattle.dcr_app.specs.Command.{number_in}
-use Rattle.dcr_app.specs.declared.command.Command.{Command}
-use Rattle.dcr_app.specs.declared.command.Command.TheVariants.{Run, Serve, Replay, Load, Nodes, Conform, Adapt}
 
 -- two numbers have not one decimal form
 abbrev pub OneNumber : Type 0
@@ -45,27 +43,3 @@ unspelled first last word never =
 pub other_number : OneNumber → (first last : ℕ) → last < 2 ^ 64 → (word : List ℕ) (n : ℕ) → n < 2 ^ 64 → word ≡ decimal n → (first ≤ n → n ≤ last → ⊥) → number_in first last word ≡ None
 other_number one first last fits word n small is none =
     unspelled first last word (λ k some within same. let equal : k ≡ n = one k n (omega (arith, within, fits)) small (sym same ∙ is) in none (subst (λ m. first ≤ m) equal some) (subst (λ m. m ≤ last) equal within))
-
--- ---- the command that words spell
-
--- what a run and a serving are by: sessions, workers, and whether with a store
-abbrev numbers_by : Option Command → ℕ × ℕ × Bool
-numbers_by None = (0, 0, false)
-numbers_by (Some (Run workers store)) = (0, workers, store)
-numbers_by (Some (Serve sessions workers store)) = (sessions, workers, store)
-numbers_by (Some Replay) = (0, 0, false)
-numbers_by (Some (Load number)) = (0, 0, false)
-numbers_by (Some (Nodes number)) = (0, 0, false)
-numbers_by (Some Conform) = (0, 0, false)
-numbers_by (Some Adapt) = (0, 0, false)
-
--- words spell one run
-pub one_run : (command : Option Command) (w workers : ℕ) (s store : Bool) → command ≡ Some (Run w s) → command ≡ Some (Run workers store) → (w ≡ workers) × (s ≡ store)
-one_run command w workers s store is also =
-    let same = ap numbers_by (sym is ∙ also) in (ap (λ (n : ℕ × ℕ × Bool). n.1) same, ap (λ (n : ℕ × ℕ × Bool). n.2) same)
-
--- and one serving
-pub one_serving : (command : Option Command) (m sessions w workers : ℕ) (s store : Bool) → command ≡ Some (Serve m w s) → command ≡ Some (Serve sessions workers store)
-    → (m ≡ sessions) × (s ≡ store)
-one_serving command m sessions w workers s store is also =
-    let same = ap numbers_by (sym is ∙ also) in (ap (λ (n : ℕ × ℕ × Bool). n.0) same, ap (λ (n : ℕ × ℕ × Bool). n.2) same)

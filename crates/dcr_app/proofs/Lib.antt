@@ -1,14 +1,15 @@
 mod CommandLemmas
 mod OutsideLemmas
+mod SaysLemmas
 mod DueLemmas
 mod TapeLemmas
 mod RunLemmas
-mod HeadlineLemmas
 mod LinksLemmas
 mod OverLemmas
 mod LoadLemmas
-mod FaultlessLemmas
+mod CaseLemmas
 mod ReplayLemmas
 mod ApartLemmas
 mod ConformLemmas
 mod AdaptLemmas
+mod AnswerLemmas

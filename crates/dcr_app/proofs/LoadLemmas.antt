@@ -1,9 +1,10 @@
 -- What `load` tells.
-use Rattle.std.proofs.Common.{◌≡◌, ◌⊎◌, ℕ, suc, ◌+◌, Bool, true, false, cond, not, List, [], ◌∷◌, length, map, drop, Option, Some, None, inr, refl, sym, ap, subst, ◌∙◌, arith}
+use Rattle.std.proofs.Common.{◌≡◌, ℕ, suc, ◌+◌, Bool, true, false, cond, not, List, [], ◌∷◌, length, map, drop, Option, Some, None, inl, inr, refl, sym, ap, subst, ◌∙◌, arith}
 use Rattle.std.specs.Prelude.{count_by, fold, slice_get, sum_by}
 use Rattle.std.proofs.lemmas.List.{length-append, length-map}
 use Rattle.std.proofs.lemmas.List.Sums.{sum_by-cons}
 use Rattle.dcr_base.specs.Disk.{DiskView}
+use Rattle.dcr_base.specs.Side.{Side}
 use Rattle.dcr_base.specs.declared.status.Status.{Status}
 use Rattle.dcr_base.specs.declared.status.Status.TheVariants.{Done, WriteFault, NoMemory}
 use Rattle.dcr_graph.specs.Cause.{waits}
@@ -22,12 +23,16 @@ use Rattle.dcr_json.specs.Judged.{Spelled}
 use Rattle.dcr_replay.specs.EntryLines.{is_done}
 use Rattle.dcr_report.proofs.Passing.{drop_at_get}
 use Rattle.dcr_load.specs.Load.{load}
+use Rattle.dcr_app.specs.Answers.{IsOr}
 use Rattle.dcr_app.specs.Headline.{cluster_in, rules_in}
 use Rattle.dcr_app.specs.Loaded.{AnswersLoad, TellsLoad, count_done, load_line}
 use Rattle.dcr_app.specs.Outside.{Wrote}
 use Rattle.dcr_app.specs.Telling.{atoms_in}
-use Rattle.dcr_app.proofs.OutsideLemmas.{ends_as}
+use Rattle.dcr_app.specs.declared.answer.Answer.{Answer}
+use Rattle.dcr_app.specs.declared.command.Command.TheVariants.{Load}
+use Rattle.dcr_app.proofs.OutsideLemmas.{HasEnded, adds_nothing, by_starved, by_wrote, due_or, ended_silent, ended_with}
 use Rattle.dcr_app.proofs.OverLemmas.{off_stands}
+use Rattle.dcr_app.proofs.SaysLemmas.{SaysAt}
 
 -- ---- how many entries there are
 
@@ -77,7 +82,7 @@ abbrev pub HaveAllCalls : Type 0
 HaveAllCalls = (number : ℕ) → sum_by length (load number).sessions ≡ 20000
 
 pub tells_load : {D : Type 0} (view : D → DiskView) (faults : D → ℕ) → OrderedIsTold → HaveAllCalls → (number : ℕ) (case : Spelled) (before : D) (closed : Closed) (last : Store D)
-    (had took : Option (List ℕ)) (status : Status) → case ≡ load number → HasRun view faults (cluster_in case []) (Off before) 1 case.sessions closed last
+    (had took : Side) (status : Status) → case ≡ load number → HasRun view faults (cluster_in case []) (Off before) 1 case.sessions closed last
     → Wrote Done (load_line number (atoms_in case) closed.history.entries closed.waits) status had took → TellsLoad number had took status closed
 tells_load view faults ordered all number case before closed last had took status is ran wrote =
     let J = closed.history.entries in
@@ -97,9 +102,28 @@ tells_load view faults ordered all number case before closed last had took statu
     history =
         ordered (rules_in case) case.cover.owned case.opening case.sessions closed.history.entries ran.whole.legal none ran.in_order (ran.calls.all none) ran.calls.no_other
 
--- ---- how it ends
+-- what an answer tells
+pub load_told : (number : ℕ) (had took : Side) (status : Status) (closed : Closed) (end : Answer) → end ≡ record { status = status; closed = Some closed } → TellsLoad number had took status closed
+    → AnswersLoad number had took end.status end.closed
+load_told number had took status closed end is it = subst (λ (e : Answer). AnswersLoad number had took e.status e.closed) (sym is) it
 
-pub load_ends : (number : ℕ) (had took : Option (List ℕ)) (status : Status) (told_run : Option Closed) → AnswersLoad number had took status told_run
-    → (status ≡ Done) ⊎ ((status ≡ WriteFault) ⊎ (status ≡ NoMemory))
-load_ends number had took status None it = inr (inr it.0)
-load_ends number had took status (Some closed) it = ends_as Done (load_line number (atoms_in (load number)) closed.history.entries closed.waits) status had took it.wrote
+pub load_starved : (number : ℕ) (had : Side) (end : Answer) → end ≡ record { status = NoMemory; closed = None } → AnswersLoad number had had end.status end.closed
+load_starved number had end is = subst (λ (e : Answer). AnswersLoad number had had e.status e.closed) (sym is) (refl, adds_nothing had)
+
+-- ---- how it ended
+
+pub load_ended : (number : ℕ) (had took : Side) (status : Status) (told_run : Option Closed) → AnswersLoad number had took status told_run → HasEnded status had took
+load_ended number had took status None it = ended_silent (inl it.0) it.1
+load_ended number had took status (Some closed) it = ended_with Done (load_line number (atoms_in (load number)) closed.history.entries closed.waits) tt it.wrote
+
+-- what the status says
+pub load_says : (number : ℕ) (before after : DiskView) (left : Option (List ℕ)) (had took : Side) (status : Status) (told_run : Option Closed) → AnswersLoad number had took status told_run
+    → SaysAt (Some (Load number)) before after left had took told_run status
+load_says number before after left had took status None it = by_starved (SaysAt (Some (Load number)) before after left had took None) tt status had took it
+load_says number before after left had took status (Some closed) it =
+    by_wrote (SaysAt (Some (Load number)) before after left had took (Some closed)) tt tt Done (load_line number (atoms_in (load number)) closed.history.entries closed.waits) status had took it.wrote (λ adds. tt)
+
+-- what an output that doesn't fail ends with
+pub load_ends : (number : ℕ) (had took : Side) (status : Status) (told_run : Option Closed) → (status ≡ WriteFault → ⊥) → AnswersLoad number had took status told_run → IsOr Done status
+load_ends number had took status None writes it = inr it.0
+load_ends number had took status (Some closed) writes it = due_or Done (load_line number (atoms_in (load number)) closed.history.entries closed.waits) status had took writes it.wrote

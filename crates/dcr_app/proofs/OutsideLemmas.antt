@@ -1,36 +1,34 @@
 -- What was read and written, by the words of the outside.
-use Rattle.std.proofs.Common.{◌≡◌, ◌⊎◌, ℕ, ◌<◌, ◌≤◌, ◌+◌, arith, List, [], length, replicate, Option, Some, None, inl, inr, refl, sym, ap, ◌∙◌, subst, take, IfSome, IsSome}
+use Rattle.std.proofs.Common.{◌≡◌, ◌≢◌, ◌⊎◌, ℕ, ◌≤◌, ◌+◌, arith, List, [], length, Option, Some, None, inl, inr, refl, sym, ap, ◌∙◌, subst, IfSome, IsSome}
 use Rattle.std.specs.Io.KnownBytes.{Appends, IsAtEnd}
-use Rattle.std.proofs.lemmas.List.{append-nil, drop_all, length-replicate}
+use Rattle.std.proofs.lemmas.List.{append-nil, drop_all}
+use Rattle.dcr_base.specs.Count.{Rose}
+use Rattle.dcr_base.specs.Side.{Side}
 use Rattle.dcr_base.specs.declared.status.Status.{Status}
 use Rattle.dcr_base.specs.declared.status.Status.TheVariants.{Done, Usage, Refused, ReadFault, WriteFault, NoMemory, DiskFault, Invalid, Full, TapeRefused, DoorFault}
-use Rattle.dcr_app.specs.declared.answer.Answer.{Answer}
-use Rattle.dcr_journal.specs.declared.closed.Closed.{Closed}
-use Rattle.dcr_serving.specs.declared.end.LinkEnd.{LinkEnd}
-use Rattle.dcr_app.specs.declared.way.Way.{Way}
-use Rattle.dcr_app.specs.declared.way.Way.TheVariants as way
-use Rattle.dcr_app.specs.Telling.{Doors, Leaves, LeavesWith}
-use Rattle.dcr_app.specs.Outside.{IsDue, IsOfReport, IsSilent, Stopped, TookAtMost, WereLeft, Wrote}
+use Rattle.dcr_app.specs.Answers.{IsOr}
+use Rattle.dcr_app.specs.Outside.{Adds, CountsWhere, IsDue, IsOfReport, IsStarved, TookAtMost, WereLeft, Wrote}
 
 -- ---- what was read
 
 -- all of it, which is within the limit
-pub took_all : (limit most : ℕ) (before after : Option (List ℕ)) (bytes : List ℕ) → most ≡ limit + 1 → length bytes ≤ limit → IfSome before (λ left. bytes ≡ left)
-    → (IsSome before → IsSome after) → IsAtEnd after → TookAtMost most before after
-took_all limit most None after bytes is short same told ended = tt
-took_all limit most (Some left) None bytes is short same told over = let wrong = told refl in absurd cc
-took_all limit most (Some left) (Some rest) bytes is short same told over =
+pub took_all : (limit : ℕ) (before after : Option (List ℕ)) (bytes : List ℕ) → length bytes ≤ limit → IfSome before (λ left. bytes ≡ left)
+    → (IsSome before → IsSome after) → IsAtEnd after → TookAtMost (limit + 1) before after
+took_all limit None after bytes short same told ended = tt
+took_all limit (Some left) None bytes short same told over = let wrong = told refl in absurd cc
+took_all limit (Some left) (Some rest) bytes short same told over =
     let fits : length left ≤ limit = subst (λ l. length l ≤ limit) same short in
-    (length left, omega (arith, fits, is), ap Some (over ∙ sym (drop_all (length left) left (omega arith))))
+    (length left, omega (arith, fits), ap Some (over ∙ sym (drop_all (length left) left (omega arith))))
 
 -- the bytes of a whole input are those that it had left
 pub were_left : (left : Option (List ℕ)) (bytes : List ℕ) → IfSome left (λ it. bytes ≡ it) → WereLeft left bytes
 were_left None bytes same = tt
 were_left (Some it) bytes same = sym same
 
--- some bytes are more than so many
-pub longer_than : (n : ℕ) → (bytes : List ℕ) × (n < length bytes)
-longer_than n = let bytes : List ℕ = replicate (n + 1) 0 in let long : length bytes ≡ n + 1 = length-replicate (n + 1) 0 in (bytes, omega (arith, long))
+-- what holds of the bytes that were read holds of what the input had left
+pub of_left : (P : List ℕ → Type 0) (left : Option (List ℕ)) (bytes : List ℕ) → WereLeft left bytes → P bytes → IfSome left P
+of_left P None bytes read holds = tt
+of_left P (Some it) bytes read holds = subst P (sym read) holds
 
 -- ---- what was written
 
@@ -38,23 +36,11 @@ pub appends_nothing : (had : Option (List ℕ)) → Appends had had []
 appends_nothing None = tt
 appends_nothing (Some xs) = sym (append-nil xs)
 
-abbrev pub silent_end : Status → Answer
-silent_end status = record { status = status; closed = None; world = None }
-
-pub unread : (end : Answer) (had : Option (List ℕ)) → end ≡ silent_end ReadFault → IsSilent end.status had had
-unread end had is = (inl (ap (λ (e : Answer). e.status) is), appends_nothing had)
-
-pub starved : (end : Answer) (had : Option (List ℕ)) → end ≡ silent_end NoMemory → IsSilent end.status had had
-starved end had is = (inr (ap (λ (e : Answer). e.status) is), appends_nothing had)
-
-pub untold : (status : Status) (end : Answer) → end ≡ silent_end status → end.closed ≡ None
-untold status end is = ap (λ (e : Answer). e.closed) is
-
-pub unworlded : (status : Status) (end : Answer) → end ≡ silent_end status → end.world ≡ None
-unworlded status end is = ap (λ (e : Answer). e.world) is
+pub adds_nothing : (had : Side) → Adds [] had had
+adds_nothing had = (appends_nothing had.bytes, refl)
 
 -- a text that is due was written whole
-pub whole : (due : Status) (text : List ℕ) (had took : Option (List ℕ)) → IsDue due → Appends had took text → Wrote due text due had took
+pub whole : (due : Status) (text : List ℕ) (had took : Side) → IsDue due → Adds text had took → Wrote due text due had took
 whole Done text had took is wrote = (refl, wrote)
 whole Usage text had took is wrote = (refl, wrote)
 whole Refused text had took is wrote = (refl, wrote)
@@ -81,62 +67,104 @@ report_is_due NoMemory is = elim is [ ]
 report_is_due Invalid is = elim is [ ]
 report_is_due TapeRefused is = elim is [ ]
 
-pub front : (text : List ℕ) (count : ℕ) (had took : Option (List ℕ)) → count < length text → Appends had took (take count text) → Stopped text had took
-front text count had took fewer wrote = record { count = count; fewer = fewer; wrote = wrote }
-
 -- ---- what is known of the status
 
--- a text that was due with one status: it is that one, or the output failed, or memory ran out
-pub ends_as : (due : Status) (text : List ℕ) (status : Status) (had took : Option (List ℕ)) → Wrote due text status had took
-    → (status ≡ due) ⊎ ((status ≡ WriteFault) ⊎ (status ≡ NoMemory))
-ends_as due text WriteFault had took wrote = inr (inl refl)
-ends_as due text NoMemory had took wrote = inr (inr refl)
-ends_as due text Done had took wrote = inl wrote.0
-ends_as due text Usage had took wrote = inl wrote.0
-ends_as due text Refused had took wrote = inl wrote.0
-ends_as due text ReadFault had took wrote = inl wrote.0
-ends_as due text DiskFault had took wrote = inl wrote.0
-ends_as due text Invalid had took wrote = inl wrote.0
-ends_as due text Full had took wrote = inl wrote.0
-ends_as due text TapeRefused had took wrote = inl wrote.0
-ends_as due text DoorFault had took wrote = inl wrote.0
+-- a text that was due: it was written whole, or the output failed, or memory ran out
+pub seen : (due : Status) (text : List ℕ) (status : Status) (had took : Side) → Wrote due text status had took
+    → ((status ≡ due) × Adds text had took)
+    ⊎ (((status ≡ WriteFault) × (had.faults ≤ took.faults) × Rose had.faults took.faults) ⊎ ((status ≡ NoMemory) × (took.faults ≡ had.faults)))
+seen due text WriteFault had took wrote = inr (inl (refl, wrote.1, wrote.2))
+seen due text NoMemory had took wrote = inr (inr (refl, wrote.1))
+seen due text Done had took wrote = inl wrote
+seen due text Usage had took wrote = inl wrote
+seen due text Refused had took wrote = inl wrote
+seen due text ReadFault had took wrote = inl wrote
+seen due text DiskFault had took wrote = inl wrote
+seen due text Invalid had took wrote = inl wrote
+seen due text Full had took wrote = inl wrote
+seen due text TapeRefused had took wrote = inl wrote
+seen due text DoorFault had took wrote = inl wrote
+
+-- what holds of each status that comes of it holds of the status
+pub by_wrote : (P : Status → Type 0) → P WriteFault → P NoMemory → (due : Status) (text : List ℕ) (status : Status) (had took : Side) → Wrote due text status had took → (Adds text had took → P due)
+    → P status
+by_wrote P failed starved due text status had took wrote holds = elim (seen due text status had took wrote) [
+  | inl it ↦ subst P (sym it.0) (holds it.1)
+  | inr other ↦ elim other [
+    | inl it ↦ subst P (sym it.0) failed
+    | inr it ↦ subst P (sym it.0) starved
+  ]
+]
+
+pub by_starved : (P : Status → Type 0) → P NoMemory → (status : Status) (had took : Side) → IsStarved status had took → P status
+by_starved P holds status had took starved = subst P (sym starved.0) holds
 
 -- with a status with which a text is due, all of it was written
-pub all_of : (due : Status) (text : List ℕ) (status : Status) (had took : Option (List ℕ)) → IsDue status → Wrote due text status had took
-    → (status ≡ due) × Appends had took text
-all_of due text Done had took is wrote = wrote
-all_of due text Usage had took is wrote = wrote
-all_of due text Refused had took is wrote = wrote
-all_of due text DiskFault had took is wrote = wrote
-all_of due text Invalid had took is wrote = wrote
-all_of due text Full had took is wrote = wrote
-all_of due text TapeRefused had took is wrote = wrote
-all_of due text DoorFault had took is wrote = wrote
-all_of due text ReadFault had took is wrote = elim is [ ]
-all_of due text WriteFault had took is wrote = elim is [ ]
-all_of due text NoMemory had took is wrote = elim is [ ]
+pub wrote_at : (due : Status) (text : List ℕ) (status named : Status) (had took : Side) → status ≡ named → IsDue named → Wrote due text status had took
+    → (named ≡ due) × Adds text had took
+wrote_at due text status named had took is named_is wrote = elim (seen due text status had took wrote) [
+  | inl it ↦ (sym is ∙ it.0, it.1)
+  | inr other ↦ elim other [
+    | inl it ↦ elim (subst IsDue (sym is ∙ it.0) named_is) [ ]
+    | inr it ↦ elim (subst IsDue (sym is ∙ it.0) named_is) [ ]
+  ]
+]
 
--- the status, by name
-pub wrote_at : (due : Status) (text : List ℕ) (status named : Status) (had took : Option (List ℕ)) → status ≡ named → IsDue named → Wrote due text status had took
-    → (named ≡ due) × Appends had took text
-wrote_at due text status named had took is named_is wrote = all_of due text named had took named_is (subst (λ s. Wrote due text s had took) is wrote)
+-- where the output didn't fail a text that was due with this status was written, or memory ran out
+pub due_or : (due : Status) (text : List ℕ) (status : Status) (had took : Side) → (status ≡ WriteFault → ⊥) → Wrote due text status had took → IsOr due status
+due_or due text status had took writes wrote = elim (seen due text status had took wrote) [
+  | inl it ↦ inl it.0
+  | inr other ↦ elim other [
+    | inl it ↦ absurd (writes it.0)
+    | inr it ↦ inr it.0
+  ]
+]
 
--- ---- ends without a run
+-- ---- how a command ended
 
--- what holds of an answer over a disk holds of the end with that answer and disk
-pub at_end : {D : Type 0} (P : Status → Option Closed → D → Type 0) (status of_end : Status) (closed told_run : Option Closed) (disk after : D) → of_end ≡ status → told_run ≡ closed → after ≡ disk
-    → P status closed disk → P of_end told_run after
-at_end P status of_end closed told_run disk after is told there holds =
-    subst (λ s. P s told_run after) (sym is) (subst (λ t. P status t after) (sym told) (subst (λ d. P status closed d) (sym there) holds))
+-- memory ran out, or the disk failed, before anything was written; or a text was due
+pub data HasEnded (status : Status) (had took : Side) : Type 0 where
+  ended_silent : (status ≡ NoMemory) ⊎ (status ≡ DiskFault) → Adds [] had took → HasEnded status had took
+  ended_with : (due : Status) (text : List ℕ) → IsDue due → Wrote due text status had took → HasEnded status had took
 
--- where no run is told, the door is as it was
-pub not_asked : {B L R : Type 0} (doors : Doors B L R) (way : Way) (told_run : Option Closed) (before after : B) (ends : List (LinkEnd L R)) (status : Status) → told_run ≡ None → after ≡ before → ends ≡ []
-    → Leaves doors way told_run before after ends status
-not_asked doors (way.Run workers) told_run before after ends status none same empty = (same, empty)
-not_asked doors (way.Serve sessions workers) told_run before after ends status none same empty =
-    subst (λ t. LeavesWith doors sessions t before after ends status) (sym none) (same, empty)
+abbrev pub NotRead : Status → Type 0
+NotRead ReadFault = ⊥
+NotRead status = Unit {0}
 
-pub not_asked_with : {B L R : Type 0} (doors : Doors B L R) (sessions : ℕ) (told_run : Option Closed) (before after : B) (ends : List (LinkEnd L R)) (status : Status) → told_run ≡ None → after ≡ before → ends ≡ []
-    → LeavesWith doors sessions told_run before after ends status
-not_asked_with doors sessions told_run before after ends status none same empty =
-    subst (λ t. LeavesWith doors sessions t before after ends status) (sym none) (same, empty)
+due_not_read : (due : Status) → IsDue due → NotRead due
+due_not_read Done is = tt
+due_not_read Usage is = tt
+due_not_read Refused is = tt
+due_not_read DiskFault is = tt
+due_not_read Invalid is = tt
+due_not_read Full is = tt
+due_not_read TapeRefused is = tt
+due_not_read DoorFault is = tt
+due_not_read ReadFault is = elim is [ ]
+due_not_read WriteFault is = tt
+due_not_read NoMemory is = tt
+
+-- the input didn't fail
+pub ended_read : (status : Status) (had took : Side) → HasEnded status had took → status ≢ ReadFault
+ended_read status had took it is = elim (subst NotRead is (read it)) [ ]
+  where
+    read : HasEnded status had took → NotRead status
+    read (ended_silent (inl e) nothing) = subst NotRead (sym e) tt
+    read (ended_silent (inr e) nothing) = subst NotRead (sym e) tt
+    read (ended_with due text is_due it) = by_wrote NotRead tt tt due text status had took it (λ _. due_not_read due is_due)
+
+-- no fault came, and none was counted
+pub uncounted : (failed : Type 0) (old new : ℕ) → (failed → ⊥) → new ≡ old → CountsWhere failed old new
+uncounted failed old new fine same = (omega (arith, same), λ is. absurd (fine is), λ _. same)
+
+-- and the output failed exactly where the status says so
+pub ended_counted : (status : Status) (had took : Side) → HasEnded status had took → CountsWhere (status ≡ WriteFault) had.faults took.faults
+ended_counted status had took (ended_silent (inl e) nothing) = uncounted (status ≡ WriteFault) had.faults took.faults (λ is. let wrong = sym e ∙ is in cc) nothing.1
+ended_counted status had took (ended_silent (inr e) nothing) = uncounted (status ≡ WriteFault) had.faults took.faults (λ is. let wrong = sym e ∙ is in cc) nothing.1
+ended_counted status had took (ended_with due text is_due it) = elim (seen due text status had took it) [
+  | inl e ↦ uncounted (status ≡ WriteFault) had.faults took.faults (λ is. elim (subst IsDue (sym e.0 ∙ is) is_due) [ ]) e.1.1
+  | inr other ↦ elim other [
+    | inl e ↦ (e.1, λ _. e.2, λ never. absurd (never e.0))
+    | inr e ↦ uncounted (status ≡ WriteFault) had.faults took.faults (λ is. let wrong = sym e.0 ∙ is in cc) e.1
+  ]
+]

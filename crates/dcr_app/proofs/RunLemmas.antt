@@ -1,11 +1,12 @@
--- What `run` answers.
-use Rattle.std.proofs.Common.{◌≡◌, ◌≢◌, ◌⊎◌, ℕ, ◌<◌, ◌≤◌, arith, Bool, true, false, List, length, Option, Some, None, Result, Ok, Err, IfSome, inl, inr, refl, sym, ap, subst, ◌∙◌, cond}
+-- What the run of a case is told by.
+use Rattle.std.proofs.Common.{◌≡◌, ◌≢◌, ◌⊎◌, ℕ, ◌<◌, ◌≤◌, arith, Bool, true, false, List, length, Option, Some, None, Result, Ok, Err, inl, inr, refl, sym, ap, subst, ◌∙◌, cond}
 use Rattle.std.specs.Prelude.{◌↔◌, ⊤, slice_get}
 use Rattle.std.specs.List.{All}
 use Rattle.std.proofs.lemmas.Bool.{lt-leb}
 use Rattle.std.proofs.lemmas.Option.{slice_get_within, get_or_from_slice_get}
 use Rattle.std.proofs.lemmas.List.Elements.{All-weaker}
 use Rattle.dcr_base.specs.Disk.{DiskView}
+use Rattle.dcr_base.specs.Side.{Side}
 use Rattle.dcr_graph.specs.Projection.{HasRoom}
 use Rattle.dcr_graph.specs.Cause.{waits}
 use Rattle.dcr_graph.specs.declared.marking.Marking.{Marking}
@@ -39,13 +40,13 @@ use Rattle.dcr_roles.specs.declared.accepted.AcceptStop.{AcceptStop}
 use Rattle.dcr_roles.specs.declared.accepted.AcceptStop.TheVariants as accept
 use Rattle.dcr_roles.specs.declared.stop.PolicyStop.{PolicyStop}
 use Rattle.dcr_roles.specs.declared.stop.PolicyStop.TheVariants as policy_stop
-use Rattle.dcr_app.specs.Answers.{AnswersCase, IsDoneThroughout, IsToldByOne, TellsRun, WroteReport, is_silent, is_refused, has_failed, is_tape_refused}
+use Rattle.dcr_app.specs.Answers.{AnswersCase, IsDoneThroughout, IsRefused, IsToldByOne, TellsRun}
 use Rattle.dcr_app.specs.Headline.{BeginsWith, Headline, digest_of, rules_in}
-use Rattle.dcr_app.specs.Outside.{IsSilent, WereLeft, Wrote}
-use Rattle.dcr_app.specs.Refusal.{case_line, refusal_line}
+use Rattle.dcr_app.specs.Outside.{IsStarved, WereLeft, Wrote}
+use Rattle.dcr_app.specs.Refusal.{refusal_line}
 use Rattle.dcr_app.specs.Stored.{Keeps, RanOver}
 use Rattle.dcr_app.specs.Telling.{IsDueBy, Telling, all_done, by_workers, disk_failed, door_failed, is_full}
-use Rattle.dcr_app.proofs.OutsideLemmas.{longer_than, were_left, wrote_at}
+use Rattle.dcr_app.proofs.OutsideLemmas.{wrote_at}
 
 -- ---- what is accepted
 
@@ -71,16 +72,16 @@ cases_are_accepted law bytes case = (λ is. accepted_at (accepted_in bytes) refl
 -- ---- a run of the case
 
 -- with Done nothing failed
-pub no_fault_done : {fine full failed : Type 0} (due : Status) (text : List ℕ) (status : Status) (had took : Option (List ℕ)) → IsDueBy fine full failed due → Wrote due text status had took
+pub no_fault_done : {fine full failed : Type 0} (due : Status) (text : List ℕ) (status : Status) (had took : Side) → IsDueBy fine full failed due → Wrote due text status had took
     → status ≡ Done → fine × (full → ⊥)
-no_fault_done due text status had took (all_done none room is) wrote done = (none, room)
-no_fault_done due text status had took (disk_failed some is) wrote done = absurd (let wrong = (wrote_at due text status Done had took done tt wrote).0 ∙ is in cc)
-no_fault_done due text status had took (is_full none full is) wrote done = absurd (let wrong = (wrote_at due text status Done had took done tt wrote).0 ∙ is in cc)
-no_fault_done due text status had took (door_failed none room failed is) wrote done = absurd (let wrong = (wrote_at due text status Done had took done tt wrote).0 ∙ is in cc)
+no_fault_done due text status had took (all_done none room is) line done = (none, room)
+no_fault_done due text status had took (disk_failed some is) line done = absurd (let wrong = (wrote_at due text status Done had took done tt line).0 ∙ is in cc)
+no_fault_done due text status had took (is_full none full is) line done = absurd (let wrong = (wrote_at due text status Done had took done tt line).0 ∙ is in cc)
+no_fault_done due text status had took (door_failed none room failed is) line done = absurd (let wrong = (wrote_at due text status Done had took done tt line).0 ∙ is in cc)
 
 -- the headline of the run of a case that these bytes spell
 pub tells_run : {D : Type 0} (view : D → DiskView) (faults : D → ℕ) → AcceptedAreTheFormats → (telling : Telling D) (store : Bool) (before after_it : D) (bytes : List ℕ) (case : Spelled) (policy : Roles)
-    (old : List TapeEntry) (first : Store D) (had took : Option (List ℕ)) (status : Status) (closed : Closed) → accepted_in bytes ≡ Ok (record { case = case; policy = policy }) → length old ≤ most_records
+    (old : List TapeEntry) (first : Store D) (had took : Side) (status : Status) (closed : Closed) → accepted_in bytes ≡ Ok (record { case = case; policy = policy }) → length old ≤ most_records
     → BeginsWith store (digest_of case) (view before) old → RanOver view faults telling case policy old first after_it had took status closed
     → Keeps store view faults (digest_of case) old closed.history.entries before after_it → (store ≡ false → HasNoFault closed.history.entries) → (IsTaped (Some first) → store ≡ true)
     → TellsRun view faults telling store before after_it (Some bytes) ⊤ had took status closed
@@ -103,6 +104,7 @@ tells_run view faults law telling store before after_it bytes case policy old fi
         sites = (whole.marks ∙ ap (λ M. marks_at G C (after G M J)) (sym whole.opening), whole.waits ∙ ap (λ M. waits G.atoms (after G M J)) (sym whole.opening));
         report = over.report;
       };
+      legal = over.legal;
       disk = keeps;
     }
   where
@@ -131,15 +133,6 @@ report_of_run case closed most graph cover opening few legal sessions entries =
       text = refl;
       counted = refl;
     }
-
--- with Done the report was written
-pub wrote_report : (case : Spelled) (closed : Closed) (due status : Status) (had took : Option (List ℕ))
-    → Wrote due (report_text case.nested case.cover closed.opening closed.history.entries) status had took
-    → IsReport (report_text case.nested case.cover closed.opening closed.history.entries) (length closed.history.entries)
-    → status ≡ Done → WroteReport had took (Some closed)
-wrote_report case closed due status had took wrote is_report done =
-    let text = report_text case.nested case.cover closed.opening closed.history.entries in
-    (text, (wrote_at due text status Done had took done tt wrote).1, is_report)
 
 -- ---- a file that is too long
 
@@ -183,36 +176,13 @@ pub is_memory : (why : AcceptStop) → WantedMemory why ⊎ HadMemory why
 is_memory (accept.Case why) = case_memory why
 is_memory (accept.Policy why) = policy_memory why
 
--- ---- from the bytes to what the input had left
+-- ---- the case that is told
 
 module _ {D : Type 0} (view : D → DiskView) (faults : D → ℕ) (telling : Telling D) (store : Bool) (before end : D) where
-  pub answers_from : (left : Option (List ℕ)) (has_ended : Type 0) (bytes : List ℕ) (had took : Option (List ℕ)) (status : Status) (told_run : Option Closed)
-      → IfSome left (λ it. bytes ≡ it) → has_ended → AnswersCase view faults telling store before end (Some bytes) ⊤ had took status told_run
-      → AnswersCase view faults telling store before end left has_ended had took status told_run
-  answers_from left has_ended bytes had took status None same ended (is_silent silent) = is_silent silent
-  answers_from left has_ended bytes had took status None same ended (is_refused it) = is_refused (record {
-    bytes = bytes;
-    read = were_left left bytes same;
-    why = it.why;
-    refuses = ap case_accepted it.read ∙ it.refuses;
-    named = it.named;
-    line = it.line;
-  })
-  answers_from left has_ended bytes had took status None same ended (has_failed on is nothing) = has_failed on is nothing
-  answers_from left has_ended bytes had took status None same ended (is_tape_refused on it) = is_tape_refused on (record {
-    bytes = bytes;
-    read = were_left left bytes same;
-    case = it.case;
-    spelled = ap case_accepted it.read ∙ it.spelled;
-    content = it.content;
-    was = it.was;
-    stays = it.stays;
-    some = it.some;
-    cause = it.cause;
-    stands = it.stands;
-    line = it.line;
-  })
-  answers_from left has_ended bytes had took status (Some closed) same ended it = record {
+  -- from the bytes to what the input had left
+  pub tells_left : (left : Option (List ℕ)) (has_ended : Type 0) (bytes : List ℕ) (had took : Side) (status : Status) (closed : Closed) → WereLeft left bytes → has_ended
+      → TellsRun view faults telling store before end (Some bytes) ⊤ had took status closed → TellsRun view faults telling store before end left has_ended had took status closed
+  tells_left left has_ended bytes had took status closed read ended it = record {
     case = it.case;
     policy = it.policy;
     old = it.old;
@@ -221,57 +191,35 @@ module _ {D : Type 0} (view : D → DiskView) (faults : D → ℕ) (telling : Te
     first = it.first;
     taped = it.taped;
     headline = record {
-      input = (bytes, were_left left bytes same, subst (λ b. SpellsBoth b (record { case = it.case; policy = it.policy })) (sym it.headline.input.1) it.headline.input.2, ended);
+      input = (bytes, read, subst (λ b. SpellsBoth b (record { case = it.case; policy = it.policy })) (sym it.headline.input.1) it.headline.input.2, ended);
       history = it.headline.history;
       sessions = it.headline.sessions;
       order = it.headline.order;
       sites = it.headline.sites;
       report = it.headline.report;
     };
+    legal = it.legal;
     disk = it.disk;
   }
 
   -- the case is the one that the bytes are read as
-  pub read_as : AcceptedAreTheFormats → (bytes : List ℕ) (has_ended : Type 0) (had took : Option (List ℕ)) (status : Status) (closed : Closed)
+  pub read_as : AcceptedAreTheFormats → (bytes : List ℕ) (has_ended : Type 0) (had took : Side) (status : Status) (closed : Closed)
       → (it : TellsRun view faults telling store before end (Some bytes) has_ended had took status closed) → case_accepted bytes ≡ Ok it.case
   read_as law bytes has_ended had took status closed it =
       ap case_accepted it.headline.input.1
       ∙ case_of_both it.headline.input.0 (record { case = it.case; policy = it.policy }) ((law it.headline.input.0 (record { case = it.case; policy = it.policy })).1 it.headline.input.2)
 
-  -- ---- a refusal
-
-  -- bytes that are refused, by the line of their refusal
-  pub refused_by : (left : Option (List ℕ)) (has_ended : Type 0) (bytes : List ℕ) (why : AcceptStop) (had took : Option (List ℕ)) (status : Status) (told_run : Option Closed)
-      → told_run ≡ None → WereLeft left bytes → case_accepted bytes ≡ Err why → HadMemory why
-      → IsSilent status had took ⊎ Wrote Refused (refusal_line why) status had took → AnswersCase view faults telling store before end left has_ended had took status told_run
-  refused_by left has_ended bytes why had took status told_run none read refuses named (inl silent) =
-      subst (λ t. AnswersCase view faults telling store before end left has_ended had took status t) (sym none) (is_silent silent)
-  refused_by left has_ended bytes why had took status told_run none read refuses named (inr wrote) =
-      subst (λ t. AnswersCase view faults telling store before end left has_ended had took status t) (sym none)
-      (is_refused (record { bytes = bytes; read = read; why = why; refuses = refuses; named = named; line = wrote }))
-
-  pub silent_run : (left : Option (List ℕ)) (has_ended : Type 0) (had took : Option (List ℕ)) (status : Status) (told_run : Option Closed)
-      → told_run ≡ None → IsSilent status had took → AnswersCase view faults telling store before end left has_ended had took status told_run
-  silent_run left has_ended had took status told_run none silent =
-      subst (λ t. AnswersCase view faults telling store before end left has_ended had took status t) (sym none) (is_silent silent)
-
-  -- bytes that are refused, or for which memory ran out
-  pub stopped_run : (left : Option (List ℕ)) (has_ended : Type 0) (bytes : List ℕ) (why : AcceptStop) (had took : Option (List ℕ)) (status : Status) (told_run : Option Closed)
-      → told_run ≡ None → WereLeft left bytes → (HadMemory why → case_accepted bytes ≡ Err why)
-      → (HadMemory why → IsSilent status had took ⊎ Wrote Refused (refusal_line why) status had took) → (WantedMemory why → IsSilent status had took)
-      → AnswersCase view faults telling store before end left has_ended had took status told_run
-  stopped_run left has_ended bytes why had took status told_run none read refuses line silent = elim (is_memory why) [
-    | inl e ↦ silent_run left has_ended had took status told_run none (silent e)
-    | inr e ↦ refused_by left has_ended bytes why had took status told_run none read (refuses e) e (line e)
+-- bytes that are refused, or for which memory ran out
+pub stopped_run : (bytes : List ℕ) (why : AcceptStop) (had took : Side) (status : Status) → (HadMemory why → case_accepted bytes ≡ Err why)
+    → (HadMemory why → IsStarved status had took ⊎ Wrote Refused (refusal_line why) status had took) → (WantedMemory why → IsStarved status had took)
+    → IsStarved status had took ⊎ IsRefused bytes had took status
+stopped_run bytes why had took status refuses line starved = elim (is_memory why) [
+  | inl e ↦ inl (starved e)
+  | inr e ↦ elim (line e) [
+    | inl it ↦ inl it
+    | inr it ↦ inr (record { why = why; refuses = refuses e; named = e; line = it })
   ]
-
-  pub too_long_run : (left : Option (List ℕ)) (has_ended : Type 0) (had took : Option (List ℕ)) (status : Status) (told_run : Option Closed)
-      → told_run ≡ None → IfSome left (λ bytes. 16777216 < length bytes) → IsSilent status had took ⊎ Wrote Refused (case_line stop.TooLong) status had took
-      → AnswersCase view faults telling store before end left has_ended had took status told_run
-  too_long_run None has_ended had took status told_run none more line =
-      let it = longer_than 16777216 in refused_by None has_ended it.0 (accept.Case stop.TooLong) had took status told_run none tt (too_long it.0 it.1) (λ e. absurd cc) line
-  too_long_run (Some bytes) has_ended had took status told_run none more line =
-      refused_by (Some bytes) has_ended bytes (accept.Case stop.TooLong) had took status told_run none refl (too_long bytes more) (λ e. absurd cc) line
+]
 
 -- ---- one case
 
@@ -287,7 +235,7 @@ one_case bytes case other is also = ap (case_or case) (sym also ∙ is)
 
 -- the history of a run that is told in the order of one worker, where nothing failed
 told_headline : {D : Type 0} → OrderedIsTold → (workers : ℕ) (store : Bool) (disk : DiskView) (first : Store D) (case : Spelled) (policy : Roles) (old : List TapeEntry) (left : Option (List ℕ)) (has_ended : Type 0)
-    (had took : Option (List ℕ)) (status : Status) (closed : Closed) → Headline (by_workers workers) store disk first case policy old left has_ended had took status closed
+    (had took : Side) (status : Status) (closed : Closed) → Headline (by_workers workers) store disk first case policy old left has_ended had took status closed
     → IsInWorkerOrder 1 closed.history.entries → HasNoFault closed.history.entries
     → closed.history.entries ≡ told (rules_in case) case.cover.owned closed.opening case.sessions
 told_headline ordered workers store disk first case policy old left has_ended had took status closed it in_order none =
@@ -301,33 +249,31 @@ one_session : (J : List Entry) → All (λ (entry : Entry). entry.session < 1) J
 one_session J only a b x y here there less same =
     let none : y.session < 1 = entry_at (λ (entry : Entry). entry.session < 1) J b y only there in absurd (omega (arith, none, less))
 
-module _ {D : Type 0} (view : D → DiskView) (faults : D → ℕ) (law : AcceptedAreTheFormats) (ordered : OrderedIsTold) (workers : ℕ) (store : Bool) (before end : D) (has_ended : Type 0)
-    (had took : Option (List ℕ)) (status : Status) where
+module _ {D : Type 0} (view : D → DiskView) (faults : D → ℕ) (law : AcceptedAreTheFormats) (ordered : OrderedIsTold) (workers : ℕ) (store : Bool) (before end : D)
+    (had took : Side) (status : Status) where
   same_case : (bytes : List ℕ) (case : Spelled) (closed : Closed) → case_accepted bytes ≡ Ok case
-      → (it : TellsRun view faults (by_workers workers) store before end (Some bytes) has_ended had took status closed) → it.case ≡ case
-  same_case bytes case closed is it = one_case bytes case it.case is (read_as view faults (by_workers workers) store before end law bytes has_ended had took status closed it)
+      → (it : TellsRun view faults (by_workers workers) store before end (Some bytes) ⊤ had took status closed) → it.case ≡ case
+  same_case bytes case closed is it = one_case bytes case it.case is (read_as view faults (by_workers workers) store before end law bytes ⊤ had took status closed it)
 
-  pub told_by_one : (left : Option (List ℕ)) (told_run : Option Closed) → AnswersCase view faults (by_workers workers) store before end left has_ended had took status told_run
-      → IsToldByOne workers left told_run
-  told_by_one None told_run it = tt
-  told_by_one (Some bytes) None it = λ case is. tt
-  told_by_one (Some bytes) (Some closed) it = λ case is one none.
+  pub told_by_one : (bytes : List ℕ) (told_run : Option Closed) → AnswersCase view faults (by_workers workers) store before end bytes had took status told_run
+      → IsToldByOne workers (Some bytes) told_run
+  told_by_one bytes None it = λ case is. tt
+  told_by_one bytes (Some closed) it = λ case is one none.
       let J = closed.history.entries in
-      told_headline ordered workers store (view before) it.first it.case it.policy it.old (Some bytes) has_ended had took status closed it.headline
+      told_headline ordered workers store (view before) it.first it.case it.policy it.old (Some bytes) ⊤ had took status closed it.headline
       (subst (λ w. IsInWorkerOrder w J) one it.headline.order) none
       ∙ ap (λ (c : Spelled). told (rules_in c) c.cover.owned closed.opening c.sessions) (same_case bytes case closed is it)
 
-  pub done_throughout : (left : Option (List ℕ)) (told_run : Option Closed) → AnswersCase view faults (by_workers workers) store before end left has_ended had took status told_run
-      → IsDoneThroughout left told_run
-  done_throughout None told_run it = tt
-  done_throughout (Some bytes) None it = λ case events executions is one spell. tt
-  done_throughout (Some bytes) (Some closed) it = λ case events executions is one spell run none.
+  pub done_throughout : (bytes : List ℕ) (told_run : Option Closed) → AnswersCase view faults (by_workers workers) store before end bytes had took status told_run
+      → IsDoneThroughout (Some bytes) told_run
+  done_throughout bytes None it = λ case events executions is one spell. tt
+  done_throughout bytes (Some closed) it = λ case events executions is one spell run none.
       let J = closed.history.entries in let M = closed.opening in
       let same = same_case bytes case closed is it in
       let AllDone : List Entry → Type 0 = λ K. All (λ (entry : Entry). entry.outcome ≡ outcome.Done) K in
       let Below : ℕ → Type 0 = λ n. All (λ (entry : Entry). entry.session < n) J in
       let only : length it.case.sessions ≡ 1 = ap (λ (c : Spelled). length c.sessions) same ∙ ap (λ (s : List (List Call)). length s) one in
-      let history = told_headline ordered workers store (view before) it.first it.case it.policy it.old (Some bytes) has_ended had took status closed it.headline
+      let history = told_headline ordered workers store (view before) it.first it.case it.policy it.old (Some bytes) ⊤ had took status closed it.headline
       (one_session J (subst Below only it.headline.sessions.no_other)) none
       ∙ ap (λ (c : Spelled). told (rules_in c) c.cover.owned M c.sessions) same ∙ ap (told (rules_in case) case.cover.owned M) one in
       subst AllDone (sym history) (a_run_is_done_lem (rules_in case) case.cover.owned M events executions run spell)

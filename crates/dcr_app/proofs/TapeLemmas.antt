@@ -1,5 +1,5 @@
 -- What a run over a tape, or a refusal of one, leaves on the disk.
-use Rattle.std.proofs.Common.{◌≡◌, ◌≢◌, ◌⊎◌, inl, inr, ℕ, ◌≤◌, ◌+◌, IsTrue, List, [], ◌∷◌, ◌++◌, length, take, Option, Some, None, Ok, IfSome, refl, sym, ap, subst, ◌∙◌, arith}
+use Rattle.std.proofs.Common.{◌≡◌, ◌≢◌, ◌⊎◌, inl, inr, ℕ, ◌≤◌, ◌+◌, Bool, true, false, IsTrue, List, [], ◌∷◌, ◌++◌, length, take, Option, Some, None, Ok, IfSome, refl, sym, ap, subst, ◌∙◌, arith}
 use Rattle.std.proofs.lemmas.List.{append_assoc, take-append-le, take_all}
 use Rattle.dcr_base.specs.Count.{Rose}
 use Rattle.dcr_base.specs.Disk.{DiskView, IsSteady, LeavesOnly}
@@ -11,7 +11,10 @@ use Rattle.dcr_tape.specs.Laws.{OneList}
 use Rattle.dcr_tape.specs.Opening.{IsUnmade, Opened, Refused as NotOpened}
 use Rattle.dcr_tape.specs.Tape.{Holds, Part, StandsFor, part_bytes}
 use Rattle.dcr_base.specs.declared.status.Status.{Status}
+use Rattle.dcr_base.specs.declared.status.Status.TheVariants.{DiskFault}
+use Rattle.dcr_journal.specs.declared.closed.Closed.{Closed}
 use Rattle.dcr_tape.specs.declared.cause.TapeCause.{TapeCause}
+use Rattle.dcr_tape.specs.declared.cause.TapeCause.TheVariants as cause
 use Rattle.dcr_tape.specs.declared.entry.TapeEntry.{TapeEntry}
 use Rattle.dcr_tape.specs.declared.tape.Tape.{Tape}
 use Rattle.dcr_tape.proofs.OpenLemmas.{made_holds}
@@ -19,7 +22,7 @@ use Rattle.dcr_cell.specs.Stored.{StandsForSome, TapeStands, executions, failed_
 use Rattle.dcr_json.specs.Judged.{Spelled}
 use Rattle.dcr_roles.specs.Accepted.{case_accepted}
 use Rattle.dcr_app.specs.Headline.{StoodFor, digest_of}
-use Rattle.dcr_app.specs.Stored.{HasKept, IsMaking, KeepsContent, StandsStill, StaysSettled, as_it_was, was_empty, was_its_tape}
+use Rattle.dcr_app.specs.Stored.{CallsDisk, HasKept, IsMaking, KeepsContent, LeavesDisk, StandsStill, StaysSettled, as_it_was, was_empty, was_its_tape}
 use Rattle.dcr_app.specs.Telling.{IsDueBy, all_done, disk_failed, door_failed, is_full}
 
 -- ---- contents
@@ -54,12 +57,42 @@ pub content_same : {D : Type 0} (view : D → DiskView) (left : Option (List ℕ
 content_same view left before after same told =
     as_it_was (subst (λ d. IsTrue (view d).told) (sym same) told) (ap (λ d. (view d).content) same)
 
+pub uncalled_disk : {D : Type 0} (view : D → DiskView) (faults : D → ℕ) (left : Option (List ℕ)) (before after : D) (status : Status) (told_run : Option Closed) → after ≡ before → status ≢ DiskFault
+    → CallsDisk view faults left before after status told_run
+uncalled_disk view faults left before after status told_run same fine = record {
+  never_falls = let count = ap faults same in omega (arith, count);
+  counted = λ is. absurd (fine is);
+  told = λ _ _. ap faults same;
+  still = λ _. still_same view before after same;
+  settled = λ _. settled_same view before after status same;
+  content = λ _ told. content_same view left before after same told;
+  uncalled = λ _. same;
+}
+
+pub uncalled_by : {D : Type 0} (store : Bool) (view : D → DiskView) (faults : D → ℕ) (left : Option (List ℕ)) (before after : D) (status : Status) (told_run : Option Closed) → after ≡ before → status ≢ DiskFault
+    → LeavesDisk store view faults left before after status told_run
+uncalled_by true view faults left before after status told_run same fine = uncalled_disk view faults left before after status told_run same fine
+uncalled_by false view faults left before after status told_run same fine = same
+
 -- what is said of bytes holds of the input that had them left
 pub content_left : (left : Option (List ℕ)) (bytes : List ℕ) (before after : DiskView) → IfSome left (λ it. bytes ≡ it) → KeepsContent (Some bytes) before after → KeepsContent left before after
 content_left left bytes before after all (as_it_was told same) = as_it_was told same
 content_left left bytes before after all (was_empty none) = was_empty none
 content_left (Some it) bytes before after all (was_its_tape found read case spelled old stands) = was_its_tape found (sym all ∙ read) case spelled old stands
 content_left None bytes before after all (was_its_tape found read case spelled old stands) = was_its_tape found tt case spelled old stands
+
+pub disk_left : {D : Type 0} (store : Bool) (view : D → DiskView) (faults : D → ℕ) (left : Option (List ℕ)) (bytes : List ℕ) (before after : D) (status : Status) (told_run : Option Closed)
+    → IfSome left (λ it. bytes ≡ it) → LeavesDisk store view faults (Some bytes) before after status told_run → LeavesDisk store view faults left before after status told_run
+disk_left true view faults left bytes before after status told_run all it = record {
+  never_falls = it.never_falls;
+  counted = it.counted;
+  told = it.told;
+  still = it.still;
+  settled = it.settled;
+  content = λ none told. content_left left bytes (view before) (view after) all (it.content none told);
+  uncalled = it.uncalled;
+}
+disk_left false view faults left bytes before after status told_run all it = it
 
 -- ---- a tape that was opened
 
@@ -207,7 +240,7 @@ either_way due (all_done none room is) = inl none
 
 -- ---- a disk that was not opened as a tape
 
-module _ {D : Type 0} (view : D → DiskView) (before after : D) (digest : List ℕ) (cause : TapeCause) (refused : NotOpened (view before) (view after) digest cause) where
+module _ {D : Type 0} (view : D → DiskView) (before after : D) (digest : List ℕ) (why : TapeCause) (refused : NotOpened (view before) (view after) digest why) where
   pub content_refused : (left : Option (List ℕ)) → IsTrue (view before).told → KeepsContent left (view before) (view after)
   content_refused left told = by_before refused.before refl
     where
@@ -226,3 +259,16 @@ module _ {D : Type 0} (view : D → DiskView) (before after : D) (digest : List 
       weaker (view before) (view after) (view before).may_leave (StandsFor digest' old')
       (λ c left. subst (StandsFor digest' old') (sym (steady.only c left)) stands)
       (refused.any_moment steady.honest (λ empty. none_stands digest' old' (view before).content (refused.was told ∙ empty) stands))
+
+-- memory ran out before the disk was called
+pub unopened : (disk : DiskView) (digest : List ℕ) → NotOpened disk disk digest cause.NoMemory
+unopened disk digest = record {
+  before = disk.content;
+  was = λ told. refl;
+  stands = tt;
+  shown = λ shown. elim shown [ ];
+  kept = λ some told. (told, refl);
+  any_moment = λ honest some. started disk disk.may_leave (λ c left. left);
+  steady = λ other steady. steady;
+  making = λ steady none. started disk IsUnmade (λ c left. let many = ap length (steady.only c left ∙ none) in omega arith);
+}

@@ -3,6 +3,7 @@
 use Rattle.std.specs.Prelude.{◌≡◌, ◌≢◌, ◌⊎◌, ℕ, zero, suc, ◌+◌, ◌-◌, ◌<◌, ◌≤◌, List, [], ◌∷◌, ◌++◌, codes, decimal, flat_map, length, map, take, Option, Some, None, Result, Ok, Err, IfSome}
 use Rattle.std.specs.Io.KnownBytes.{Appends}
 use Rattle.std.specs.List.{All, slice_get}
+use Rattle.dcr_base.specs.Side.{Side}
 use Rattle.dcr_base.specs.declared.status.Status.{Status}
 use Rattle.dcr_base.specs.declared.status.Status.TheVariants.{Done, Refused, WriteFault, NoMemory}
 use Rattle.dcr_set.specs.EventSet.{Set}
@@ -15,7 +16,6 @@ use Rattle.dcr_journal.specs.declared.call.Call.{Call}
 use Rattle.dcr_journal.specs.declared.call.Entry.{Entry}
 use Rattle.dcr_journal.specs.declared.closed.Closed.{Closed}
 use Rattle.dcr_json.specs.Judged.{Spelled}
-use Rattle.dcr_json.specs.declared.case.CaseStop.TheVariants as stop
 use Rattle.dcr_report.specs.Report.{report_text}
 use Rattle.dcr_replay.specs.Laws.{IsReport}
 use Rattle.dcr_adapt.specs.Carried.{carried}
@@ -23,7 +23,7 @@ use Rattle.dcr_adapt.specs.Stages.{stages_in}
 use Rattle.dcr_adapt.specs.declared.stop.StageStop.{StageStop}
 use Rattle.dcr_adapt.specs.declared.stop.StageStop.TheVariants as stage
 use Rattle.dcr_app.specs.Headline.{rules_in}
-use Rattle.dcr_app.specs.Outside.{IsSilent, WereLeft, Wrote}
+use Rattle.dcr_app.specs.Outside.{IsStarved, Wrote}
 use Rattle.dcr_app.specs.Refusal.{case_line, policy_line}
 use Rattle.dcr_app.specs.Telling.{atoms_in}
 
@@ -83,7 +83,7 @@ IsToldOf stages before (suc k) told_run = (s : Stage) × (closed : Closed) × (s
 -- Of these stages so many were run, each to its end, the last of which is told, and the reports of all were due. What was
 -- written reaches behind the report of the one before the last, and not behind that of the last; where the output failed it
 -- doesn't reach its end. Each report by itself is that of a legal history.
-pub record RunsStages (stages : List Stage) (before : Option Closed) (had took : Option (List ℕ)) (status : Status) (told_run : Option Closed) : Type 0 where
+pub record RunsStages (stages : List Stage) (before : Option Closed) (had took : Side) (status : Status) (told_run : Option Closed) : Type 0 where
   pub count : ℕ
   pub within : count ≤ length stages
   pub all : status ≡ Done → count ≡ length stages
@@ -93,15 +93,10 @@ pub record RunsStages (stages : List Stage) (before : Option Closed) (had took :
   pub far : length (reports_of (take (count - 1) stages)) ≤ reach
   pub near : reach ≤ length (reports_of (take count stages))
   pub cut : status ≡ WriteFault → reach < length (reports_of (take count stages))
-  pub front : Appends had took (take reach (reports_of (take count stages)))
+  pub front : Appends had.bytes took.bytes (take reach (reports_of (take count stages)))
   pub legal : All (λ (s : Stage). IsReport (report_of s) (length (history_of s))) (take count stages)
 
 -- ---- refusals
-
--- why an input is refused: for its length, or for its lines
-pub data AdaptRefusal : Type 0 where
-  too_long : AdaptRefusal
-  no_stages : StageStop → AdaptRefusal
 
 -- the line that tells why the lines of a text are no stages; want of memory has none
 abbrev pub stage_line : StageStop → List ℕ
@@ -111,42 +106,27 @@ stage_line (stage.Policy i why) = codes "case " ++ decimal i ++ codes " " ++ pol
 stage_line (stage.Dropped i name) = codes "case " ++ decimal i ++ codes " refused 13 dropped " ++ name ++ codes "\n"
 stage_line stage.NoMemory = []
 
-abbrev pub adapt_line : AdaptRefusal → List ℕ
-adapt_line too_long = case_line stop.TooLong
-adapt_line (no_stages why) = stage_line why
-
--- this is the first refusal of the input's bytes
-abbrev pub IsAdaptRefused : List ℕ → AdaptRefusal → Type 0
-IsAdaptRefused bytes too_long = 16777216 < length bytes
-IsAdaptRefused bytes (no_stages why) = (length bytes ≤ 16777216) × (stages_in bytes ≡ Err why) × (why ≢ stage.NoMemory)
-
--- the bytes that were read are refused, and the line of the first refusal was due
-pub record IsRefusedAdapt (left had took : Option (List ℕ)) (status : Status) : Type 0 where
-  pub bytes : List ℕ
-  pub read : WereLeft left bytes
-  pub why : AdaptRefusal
-  pub refuses : IsAdaptRefused bytes why
-  pub line : Wrote Refused (adapt_line why) status had took
-
--- the line that was written says why the bytes that were read are refused
-abbrev pub RefusesStages : Option (List ℕ) → Option (List ℕ) → Option (List ℕ) → Type 0
-RefusesStages left had took = (bytes : List ℕ) × WereLeft left bytes × ((why : AdaptRefusal) × IsAdaptRefused bytes why × Appends had took (adapt_line why))
+-- the bytes are refused, and the line of the first refusal was due
+pub record IsRefusedAdapt (bytes : List ℕ) (had took : Side) (status : Status) : Type 0 where
+  pub why : StageStop
+  pub refuses : stages_in bytes ≡ Err why
+  pub named : why ≢ stage.NoMemory
+  pub line : Wrote Refused (stage_line why) status had took
 
 -- ---- answers
 
--- The stages that the input spells were run, one after the other, and their reports were due.
-pub record TellsStages (left : Option (List ℕ)) (has_ended : Type 0) (had took : Option (List ℕ)) (status : Status) (told_run : Option Closed) : Type 0 where
+-- The stages that the bytes spell, one in each line, were run, one after the other, and their reports were due.
+pub record TellsStages (bytes : List ℕ) (had took : Side) (status : Status) (told_run : Option Closed) : Type 0 where
   pub stages : List Stage
-  -- the bytes that the input had left at entry, which are few enough, spell their cases, one in each line, and none is left
-  pub input : (bytes : List ℕ) × WereLeft left bytes × (length bytes ≤ 16777216) × (stages_in bytes ≡ Ok (map case_of_stage stages)) × has_ended
+  pub spelled : stages_in bytes ≡ Ok (map case_of_stage stages)
   pub first : BeginsAsWritten stages
   pub next : GoesOn stages
   pub runs : RunsStages stages None had took status told_run
 
--- else nothing was written, or the input is refused, and no run is told
-abbrev pub AnswersStages : Option (List ℕ) → Type 0 → Option (List ℕ) → Option (List ℕ) → Status → Option Closed → Type 0
-AnswersStages left has_ended had took status told_run =
-    ((told_run ≡ None) × (IsSilent status had took ⊎ IsRefusedAdapt left had took status)) ⊎ TellsStages left has_ended had took status told_run
+-- else nothing was written, or the bytes are refused, and no run is told
+abbrev pub AnswersStages : List ℕ → Side → Side → Status → Option Closed → Type 0
+AnswersStages bytes had took status told_run =
+    ((told_run ≡ None) × (IsStarved status had took ⊎ IsRefusedAdapt bytes had took status)) ⊎ TellsStages bytes had took status told_run
 
 -- what was written with Done are reports of legal histories, each of which `replay` finds valid by itself
 pub record WroteReports (had took : Option (List ℕ)) : Type 0 where

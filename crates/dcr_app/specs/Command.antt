@@ -119,6 +119,11 @@ HasNumbers (Nodes number) = Unit {0}
 HasNumbers Conform = Unit {0}
 HasNumbers Adapt = Unit {0}
 
+-- whether the command reads its input
+abbrev pub IsReading : Command → Type 0
+IsReading (Load number) = ⊥
+IsReading command = Unit {0}
+
 abbrev pub IsWay : Way → Type 0
 IsWay (way.Run workers) = AreWorkers workers
 IsWay (way.Serve sessions workers) = AreSessions sessions × AreWorkers workers

@@ -2,6 +2,7 @@
 use Rattle.std.specs.Prelude.{◌≡◌, ◌⊎◌, ℕ, Bool, true, false, IsTrue, List, [], Option}
 use Rattle.sha2.specs.Sha256.{sha256}
 use Rattle.dcr_base.specs.Disk.{DiskView}
+use Rattle.dcr_base.specs.Side.{Side}
 use Rattle.dcr_base.specs.declared.status.Status.{Status}
 use Rattle.dcr_base.specs.declared.status.Status.TheVariants.{Done}
 use Rattle.dcr_graph.specs.Cause.{waits}
@@ -56,9 +57,9 @@ IsDueFor telling J due = IsDueBy (HasNoFault J) (telling.full J) telling.door_fa
 -- from the executions `old`. `telling` is what the command tells of its own: `by_workers` of `run`, `over_links` of `serve`.
 -- `disk` is the disk at entry, and `first` the store that the run began with. `left` is what the input had left at entry,
 -- where it tells that, and `has_ended` that it has come to its end; `had` is what the output had taken at entry, and `took`
--- what it has taken now, where it tells that; `status` is how the program ended.
+-- what it has taken now, where it tells that, with its count of failed writes; `status` is how the program ended.
 pub record Headline {D : Type 0} (telling : Telling D) (store : Bool) (disk : DiskView) (first : Store D) (case : Spelled) (policy : Roles) (old : List TapeEntry) (left : Option (List ℕ)) (has_ended : Type 0)
-    (had took : Option (List ℕ)) (status : Status) (closed : Closed) : Type 0 where
+    (had took : Side) (status : Status) (closed : Closed) : Type 0 where
   -- 1. The bytes that the input had left at entry spell the case and its policy, which denies no call of its sessions, and
   -- none is left.
   pub input : (bytes : List ℕ) × WereLeft left bytes × SpellsBoth bytes (record { case = case; policy = policy }) × has_ended

@@ -1,8 +1,8 @@
 -- What comes of the case that a number spells.
-use Rattle.std.specs.Prelude.{◌≡◌, ℕ, List, [], ◌++◌, codes, count_by, decimal, length, not, Option, Some, None}
-use Rattle.std.specs.Io.KnownBytes.{Appends}
+use Rattle.std.specs.Prelude.{◌≡◌, ℕ, List, ◌++◌, codes, count_by, decimal, length, not, Option, Some, None}
+use Rattle.dcr_base.specs.Side.{Side}
 use Rattle.dcr_base.specs.declared.status.Status.{Status}
-use Rattle.dcr_base.specs.declared.status.Status.TheVariants.{Done, NoMemory}
+use Rattle.dcr_base.specs.declared.status.Status.TheVariants.{Done}
 use Rattle.dcr_graph.specs.Cause.{waits}
 use Rattle.dcr_journal.specs.Run.{after, marks_at, told}
 use Rattle.dcr_journal.specs.declared.call.Entry.{Entry}
@@ -11,7 +11,7 @@ use Rattle.dcr_report.specs.Report.{line, verdict_text}
 use Rattle.dcr_replay.specs.EntryLines.{is_done}
 use Rattle.dcr_load.specs.Load.{load}
 use Rattle.dcr_app.specs.Headline.{rules_in}
-use Rattle.dcr_app.specs.Outside.{Wrote}
+use Rattle.dcr_app.specs.Outside.{IsStarved, Wrote}
 use Rattle.dcr_app.specs.Telling.{atoms_in}
 
 -- how many entries are executions that were done, and how many are not
@@ -29,7 +29,7 @@ load_line number names J waited =
     ++ codes " other " ++ decimal (count_other J) ++ codes " " ++ verdict_text names waited)
 
 -- The run of the case of this number by one worker is told, and its line was due.
-pub record TellsLoad (number : ℕ) (had took : Option (List ℕ)) (status : Status) (closed : Closed) : Type 0 where
+pub record TellsLoad (number : ℕ) (had took : Side) (status : Status) (closed : Closed) : Type 0 where
   pub opening : closed.opening ≡ (load number).opening
   -- its sessions one after the other, each call with the graph's answer at its place
   pub history : closed.history.entries ≡ told (rules_in (load number)) (load number).cover.owned (load number).opening (load number).sessions
@@ -40,6 +40,6 @@ pub record TellsLoad (number : ℕ) (had took : Option (List ℕ)) (status : Sta
   pub wrote : Wrote Done (load_line number (atoms_in (load number)) closed.history.entries closed.waits) status had took
 
 -- where no run is told, memory ran out before anything was written
-abbrev pub AnswersLoad : ℕ → Option (List ℕ) → Option (List ℕ) → Status → Option Closed → Type 0
-AnswersLoad number had took status None = (status ≡ NoMemory) × Appends had took []
+abbrev pub AnswersLoad : ℕ → Side → Side → Status → Option Closed → Type 0
+AnswersLoad number had took status None = IsStarved status had took
 AnswersLoad number had took status (Some closed) = TellsLoad number had took status closed

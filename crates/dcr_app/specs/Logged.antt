@@ -1,6 +1,6 @@
 -- What `conform` answers: how each trace of a log is judged, or why the input is refused.
-use Rattle.std.specs.Prelude.{◌≡◌, ◌⊎◌, ℕ, ◌+◌, ◌≤◌, List, [], ◌∷◌, ◌++◌, codes, decimal, drop, length, nat_le, Option, Some, None, Result, Ok, Err, if◌then◌else◌}
-use Rattle.std.specs.Io.KnownBytes.{Appends}
+use Rattle.std.specs.Prelude.{◌≡◌, ◌⊎◌, ℕ, ◌+◌, List, [], ◌∷◌, ◌++◌, codes, decimal, drop, length, nat_le, Option, Some, None, Result, Ok, Err, if◌then◌else◌}
+use Rattle.dcr_base.specs.Side.{Side}
 use Rattle.dcr_base.specs.declared.status.Status.{Status}
 use Rattle.dcr_base.specs.declared.status.Status.TheVariants.{Done, Refused, NoMemory}
 use Rattle.dcr_text.specs.Lines.{pieces_of}
@@ -17,7 +17,7 @@ use Rattle.dcr_roles.specs.Accepted.{HadMemory, case_accepted}
 use Rattle.dcr_roles.specs.Laws.{AcceptsCase}
 use Rattle.dcr_roles.specs.declared.accepted.AcceptStop.{AcceptStop}
 use Rattle.dcr_roles.specs.declared.accepted.AcceptStop.TheVariants as accept
-use Rattle.dcr_app.specs.Outside.{IsSilent, WereLeft, Wrote}
+use Rattle.dcr_app.specs.Outside.{IsStarved, Wrote}
 use Rattle.dcr_app.specs.Refusal.{refusal_line}
 
 -- ---- the two parts of the input
@@ -64,10 +64,8 @@ abbrev pub IsInputRefused : List ℕ → InputRefusal → Type 0
 IsInputRefused bytes (no_case why) = (case_before_log bytes ≡ Err why) × HadMemory why
 IsInputRefused bytes (bad_record row) = (case : Spelled) × (case_before_log bytes ≡ Ok case) × (first_bad (rows_in bytes) ≡ Some row)
 
--- the bytes that were read are refused, and the line of the first refusal was due
-pub record IsRefusedInput (left had took : Option (List ℕ)) (status : Status) : Type 0 where
-  pub bytes : List ℕ
-  pub read : WereLeft left bytes
+-- the bytes are refused, and the line of the first refusal was due
+pub record IsRefusedInput (bytes : List ℕ) (had took : Side) (status : Status) : Type 0 where
   pub why : InputRefusal
   pub refuses : IsInputRefused bytes why
   pub line : Wrote Refused (input_line why) status had took
@@ -75,27 +73,23 @@ pub record IsRefusedInput (left had took : Option (List ℕ)) (status : Status) 
 -- ---- answers
 
 -- The traces of the log were judged by the whole graph of the case, from its opening marking, and their lines were due.
-pub record TellsLog (left : Option (List ℕ)) (has_ended : Type 0) (had took : Option (List ℕ)) (status : Status) : Type 0 where
+pub record TellsLog (bytes : List ℕ) (had took : Side) (status : Status) : Type 0 where
   pub case : Spelled
-  -- of the bytes that the input had left at entry, which are few enough, the first line is accepted as the case, the log behind it
-  -- has no bad record, and none is left
-  pub input : (bytes : List ℕ) × WereLeft left bytes × (length bytes ≤ 16777216) × AcceptsCase (case_text bytes) case × (first_bad (rows_in bytes) ≡ None) × has_ended
+  -- the first line is accepted as the case, and the log behind it has no bad record
+  pub accepts : AcceptsCase (case_text bytes) case
+  pub good : first_bad (rows_in bytes) ≡ None
   -- the flat graph of the case
   pub graph : Flat
   pub flat : IsFlattening case.nested graph
   -- one answer for each trace that the records spell, in order of first appearance
   pub answers : List Judged
-  pub judged : AreJudged graph case.opening (traces_of (drop 1 (rows_in input.0))) answers
+  pub judged : AreJudged graph case.opening (traces_of (drop 1 (rows_in bytes))) answers
   -- what the output took are the lines of these answers, and then how many there are
-  pub wrote : Wrote Done (judged_text graph.names (traces_of (drop 1 (rows_in input.0))) answers) status had took
+  pub wrote : Wrote Done (judged_text graph.names (traces_of (drop 1 (rows_in bytes))) answers) status had took
 
--- else nothing was written, or the input is refused
-abbrev pub AnswersLog : Option (List ℕ) → Type 0 → Option (List ℕ) → Option (List ℕ) → Status → Type 0
-AnswersLog left has_ended had took status = IsSilent status had took ⊎ (IsRefusedInput left had took status ⊎ TellsLog left has_ended had took status)
-
--- the line that was written says why the bytes that were read are refused
-abbrev pub RefusesInput : Option (List ℕ) → Option (List ℕ) → Option (List ℕ) → Type 0
-RefusesInput left had took = (bytes : List ℕ) × WereLeft left bytes × ((why : InputRefusal) × IsInputRefused bytes why × Appends had took (input_line why))
+-- else nothing was written, or the bytes are refused
+abbrev pub AnswersLog : List ℕ → Side → Side → Status → Type 0
+AnswersLog bytes had took status = IsStarved status had took ⊎ (IsRefusedInput bytes had took status ⊎ TellsLog bytes had took status)
 
 -- what an input and an output that don't fail end with: a case and a log without a bad record are done, and others refused
 abbrev pub EndsLog : Result Spelled AcceptStop → Option ℕ → Status → Type 0

@@ -1,21 +1,23 @@
 -- What is left on the disk, and why one is refused as the tape of a case.
 use Rattle.std.specs.Prelude.{◌≡◌, ◌≢◌, ◌⊎◌, ℕ, ◌≤◌, Bool, true, false, IsTrue, List, [], ◌++◌, length, codes, decimal, Option, Some, None, Ok}
-use Rattle.std.specs.Io.KnownBytes.{Appends}
 use Rattle.dcr_base.specs.Count.{Rose}
 use Rattle.dcr_base.specs.Disk.{DiskView, IsSteady, LeavesOnly}
+use Rattle.dcr_base.specs.Side.{Side}
 use Rattle.dcr_base.specs.declared.status.Status.{Status}
 use Rattle.dcr_base.specs.declared.status.Status.TheVariants as named
 use Rattle.dcr_journal.specs.Run.{HasNoFault}
 use Rattle.dcr_journal.specs.declared.call.Entry.{Entry}
 use Rattle.dcr_journal.specs.declared.closed.Closed.{Closed}
-use Rattle.dcr_tape.specs.Opening.{IsCause, IsShown, IsUnmade, most_records}
+use Rattle.dcr_tape.specs.Kept.{part_of}
+use Rattle.dcr_tape.specs.Opening.{IsCause, IsShown, IsUnmade, Opened, most_records}
 use Rattle.dcr_tape.specs.Tape.{StandsFor}
 use Rattle.dcr_tape.specs.declared.cause.TapeCause.{TapeCause}
 use Rattle.dcr_tape.specs.declared.cause.TapeCause.TheVariants.{NotTape, OtherGraph, BadTape, Long, DiskFault, NoMemory}
 use Rattle.dcr_tape.specs.declared.entry.TapeEntry.{TapeEntry}
-use Rattle.dcr_cell.specs.Stored.{StandsForSome, kept_for, tried_for}
+use Rattle.dcr_cell.specs.Stored.{MayBegin, StandsForSome, kept_for, tried_for}
 use Rattle.dcr_tape.specs.declared.tape.Store.{Store}
 use Rattle.dcr_tape.specs.declared.tape.Store.TheVariants.{Off, On}
+use Rattle.dcr_tape.specs.declared.tape.Tape.{Tape}
 use Rattle.dcr_cluster.specs.Opening.{ArePossible, IsFirstBad, Refused}
 use Rattle.dcr_cluster.specs.declared.refused.OpenCause.{OpenCause}
 use Rattle.dcr_cluster.specs.declared.refused.OpenCause.TheVariants as opening
@@ -23,9 +25,10 @@ use Rattle.dcr_engine.specs.Ran.{IsWhole}
 use Rattle.dcr_json.specs.Judged.{Spelled}
 use Rattle.dcr_policy.specs.Roles.{Roles}
 use Rattle.dcr_report.specs.Report.{report_text}
+use Rattle.dcr_replay.specs.Laws.{IsReport}
 use Rattle.dcr_roles.specs.Accepted.{case_accepted}
 use Rattle.dcr_app.specs.Headline.{IsDueFor, cluster_in, digest_of}
-use Rattle.dcr_app.specs.Outside.{IsSilent, WereLeft, Wrote}
+use Rattle.dcr_app.specs.Outside.{Adds, IsStarved, WereLeft, Wrote}
 use Rattle.dcr_app.specs.Telling.{Telling}
 
 -- ---- after a run
@@ -78,6 +81,23 @@ pub record StaysSettled {D : Type 0} (view : D → DiskView) (before after : D) 
   pub steady : status ≢ named.DiskFault → IsSteady (view before) → IsSteady (view after)
   pub empty : IsSteady (view before) → (view before).content ≡ [] → LeavesOnly (view before) (view after) IsMaking
 
+-- What becomes of the disk of a command with a store, where `told_run` is the run that is told. It has failed where the status says so, and
+-- where no run is told only then.
+pub record CallsDisk {D : Type 0} (view : D → DiskView) (faults : D → ℕ) (left : Option (List ℕ)) (before after : D) (status : Status) (told_run : Option Closed) : Type 0 where
+  pub never_falls : faults before ≤ faults after
+  pub counted : status ≡ named.DiskFault → Rose (faults before) (faults after)
+  pub told : told_run ≡ None → status ≢ named.DiskFault → faults after ≡ faults before
+  pub still : told_run ≡ None → StandsStill view before after
+  pub settled : told_run ≡ None → StaysSettled view before after status
+  pub content : told_run ≡ None → IsTrue (view before).told → KeepsContent left (view before) (view after)
+  -- where the input failed or is refused it is not called
+  pub uncalled : (status ≡ named.Refused) ⊎ (status ≡ named.ReadFault) → after ≡ before
+
+-- the same of any command: without a store it is not called
+abbrev pub LeavesDisk : Bool → {D : Type 0} → (D → DiskView) → (D → ℕ) → Option (List ℕ) → D → D → Status → Option Closed → Type 0
+LeavesDisk true view faults left before after status told_run = CallsDisk view faults left before after status told_run
+LeavesDisk false view faults left before after status told_run = after ≡ before
+
 -- The cause stands in this content, for the case: it is no tape of the case that has sound records, or its first execution
 -- that can't be done, each after those before it, is this one.
 pub data RefusesTape (case : Spelled) (content : List ℕ) (cause : TapeCause) : Type 0 where
@@ -96,12 +116,24 @@ tape_line NoMemory = []
 
 -- What comes of a disk that is refused for this cause: nothing is written where it failed or memory ran out; else the line of
 -- the cause was due, or memory ran out before it.
-abbrev pub EndsFor : TapeCause → Status → Option (List ℕ) → Option (List ℕ) → Type 0
-EndsFor DiskFault status had took = (status ≡ named.DiskFault) × Appends had took []
-EndsFor NoMemory status had took = IsSilent status had took
-EndsFor cause status had took = IsSilent status had took ⊎ Wrote named.TapeRefused (tape_line cause) status had took
+abbrev pub EndsFor : TapeCause → Status → Side → Side → Type 0
+EndsFor DiskFault status had took = (status ≡ named.DiskFault) × Adds [] had took
+EndsFor NoMemory status had took = IsStarved status had took
+EndsFor cause status had took = IsStarved status had took ⊎ Wrote named.TapeRefused (tape_line cause) status had took
 
 -- ---- over a store
+
+-- a run goes on from these executions, over the tape as which the disk was opened
+pub record BeginsOn {D : Type 0} (view : D → DiskView) (faults : D → ℕ) (digest : List ℕ) (before : D) (tape : Tape D) (old : List TapeEntry) : Type 0 where
+  pub opened : Opened (view before) (view tape.disk) digest (part_of tape) old
+  pub may_begin : MayBegin view old (On tape)
+  pub no_fault : faults tape.disk ≡ faults before
+
+-- the store with which a run of the case with this digest begins, and the executions from before: of no store none
+abbrev pub Begins : {D : Type 0} → (D → DiskView) → (D → ℕ) → List ℕ → Bool → D → Store D → List TapeEntry → Type 0
+Begins view faults digest false before first old = (first ≡ Off before) × (old ≡ [])
+Begins view faults digest true before (On tape) old = BeginsOn view faults digest before tape old
+Begins view faults digest true before (Off disk) old = ⊥
 
 abbrev pub disk_in : {D : Type 0} → Store D → D
 disk_in (Off disk) = disk
@@ -115,7 +147,7 @@ tape_cause opening.DiskFault = DiskFault
 
 -- the case was run over this store, with its policy, and the report of the run was due
 pub record RanOver {D : Type 0} (view : D → DiskView) (faults : D → ℕ) (telling : Telling D) (case : Spelled) (policy : Roles) (old : List TapeEntry) (first : Store D) (disk : D)
-    (had took : Option (List ℕ)) (status : Status) (closed : Closed) : Type 0 where
+    (had took : Side) (status : Status) (closed : Closed) : Type 0 where
   pub last : Store D
   pub same : disk ≡ disk_in last
   pub possible : ArePossible (cluster_in case old) (length old)
@@ -124,16 +156,17 @@ pub record RanOver {D : Type 0} (view : D → DiskView) (faults : D → ℕ) (te
   pub order : telling.order closed.history.entries
   pub report : (due : Status) × IsDueFor telling closed.history.entries due
       × Wrote due (report_text case.nested case.cover closed.opening closed.history.entries) status had took
+  pub legal : IsReport (report_text case.nested case.cover closed.opening closed.history.entries) (length closed.history.entries)
 
 -- no call was made over this store, for this cause
 pub record RefusedOver {D : Type 0} (view : D → DiskView) (faults : D → ℕ) (case : Spelled) (old : List TapeEntry) (first : Store D) (disk : D)
-    (had took : Option (List ℕ)) (status : Status) : Type 0 where
+    (had took : Side) (status : Status) : Type 0 where
   pub cause : OpenCause
   pub last : Store D
   pub same : disk ≡ disk_in last
   pub refused : Refused view faults (cluster_in case old) first cause last
   pub ends : EndsFor (tape_cause cause) status had took
 
-abbrev pub EndsOver : {D : Type 0} → (D → DiskView) → (D → ℕ) → Telling D → Spelled → Roles → List TapeEntry → Store D → D → Option (List ℕ) → Option (List ℕ) → Status → Option Closed → Type 0
+abbrev pub EndsOver : {D : Type 0} → (D → DiskView) → (D → ℕ) → Telling D → Spelled → Roles → List TapeEntry → Store D → D → Side → Side → Status → Option Closed → Type 0
 EndsOver view faults telling case policy old first disk had took status (Some closed) = RanOver view faults telling case policy old first disk had took status closed
 EndsOver view faults telling case policy old first disk had took status None = RefusedOver view faults case old first disk had took status

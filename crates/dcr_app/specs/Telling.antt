@@ -21,6 +21,8 @@ use Rattle.dcr_serving.specs.declared.end.LinkEnd.{LinkEnd}
 use Rattle.dcr_engine.specs.Ran.{HasCalls}
 use Rattle.dcr_engine.specs.Served.{ServedIn, most_served}
 use Rattle.dcr_json.specs.Judged.{Spelled}
+use Rattle.dcr_app.specs.declared.command.Command.{Command}
+use Rattle.dcr_app.specs.declared.command.Command.TheVariants as asked
 use Rattle.dcr_app.specs.declared.way.Way.{Way}
 use Rattle.dcr_app.specs.declared.way.Way.TheVariants.{Run, Serve}
 
@@ -90,6 +92,7 @@ pub record LeavesDoor {B L R : Type 0} (doors : Doors B L R) (before after : B) 
   pub all : (status ≡ Done) ⊎ ((status ≢ NoMemory) × (Rose (doors.faults before) (doors.faults after) → ⊥)) → (length ends ≡ sessions) ⊎ doors.is_shut after
   pub by_links : status ≡ Done → All (λ (end : LinkEnd L R). IsOfLink end.end.cause) ends
   pub unfailed : status ≡ Done → doors.faults after ≡ doors.faults before
+  pub failed : status ≡ DoorFault → Rose (doors.faults before) (doors.faults after)
   pub never_falls : doors.faults before ≤ doors.faults after
 
 -- ---- each way
@@ -107,10 +110,15 @@ abbrev pub LeavesWith : {B L R : Type 0} → Doors B L R → ℕ → Option Clos
 LeavesWith doors sessions (Some closed) before after ends status = LeavesDoor doors before after sessions ends status
 LeavesWith doors sessions None before after ends status = IsUnasked before after ends
 
--- what became of the door: without sessions over links it was not asked
-abbrev pub Leaves : {B L R : Type 0} → Doors B L R → Way → Option Closed → B → B → List (LinkEnd L R) → Status → Type 0
-Leaves doors (Serve sessions workers) told before after ends status = LeavesWith doors sessions told before after ends status
-Leaves doors (Run workers) told before after ends status = IsUnasked before after ends
+-- the same of either way: without sessions over links it was not asked
+abbrev pub LeavesBy : {B L R : Type 0} → Doors B L R → Way → Option Closed → B → B → List (LinkEnd L R) → Status → Type 0
+LeavesBy doors (Serve sessions workers) told_run before after ends status = LeavesWith doors sessions told_run before after ends status
+LeavesBy doors (Run workers) told_run before after ends status = IsUnasked before after ends
+
+-- the same of any command: without sessions over links it was not asked
+abbrev pub Leaves : {B L R : Type 0} → Doors B L R → Option Command → Option Closed → B → B → List (LinkEnd L R) → Status → Type 0
+Leaves doors (Some (asked.Serve sessions workers store)) told_run before after ends status = LeavesWith doors sessions told_run before after ends status
+Leaves doors command told_run before after ends status = IsUnasked before after ends
 
 -- ---- the status of a report
 

@@ -1,22 +1,20 @@
 // The command `adapt`.
-ghost use Rattle.std.specs.Prelude.{◌≡◌, ◌≢◌, ◌⊎◌, ◌<◌, ◌≤◌, ◌++◌, codes, decimal, List, ℕ, length, map, Some, Ok, None, IfOk, IfSome, ⊤};
-ghost use Rattle.std.specs.Io.KnownBytes.{IsAtEnd};
+ghost use Rattle.std.specs.Prelude.{◌≡◌, ◌≢◌, ◌⊎◌, ◌<◌, ◌≤◌, ◌++◌, codes, decimal, List, ℕ, length, map, IfOk, IfSome};
 ghost use Rattle.std.specs.List.{All};
-ghost use Rattle.dcr_base.specs.Count.{Rose};
+ghost use Rattle.dcr_base.specs.Side.{side};
 ghost use Rattle.dcr_graph.specs.Projection.{HasRoom};
 ghost use Rattle.dcr_json.specs.Built.{case_of, IsCase};
 ghost use Rattle.dcr_json.specs.declared.case.Case.{Case};
-ghost use Rattle.dcr_adapt.specs.Stages.{stages_in};
-ghost use Rattle.dcr_app.specs.Adapted.{AnswersStages, RanStage, RunsStages, WroteReports, stage_line, stages_from};
-ghost use Rattle.dcr_app.specs.Outside.{IsSilent, TookAtMost, Wrote};
+ghost use Rattle.dcr_app.specs.Adapted.{AnswersStages, RanStage, RunsStages, stage_line, stages_from};
+ghost use Rattle.dcr_app.specs.Outside.{IsStarved, Wrote};
 
-use crate::answer::Answer;
+use crate::answer::{Answer, ended};
 use crate::lines::{numbered, text};
 use crate::refusal::{case_line, policy_line};
-use crate::say::{refuse_long, say, silent};
+use crate::say::say;
 use crate::stored::{disk_of, report};
 use dcr_adapt::{StageStop, carry, read_stages, when_each_stage_is_refused};
-use dcr_base::{Disk, Gate, ReadStop, Sink, Source, Status, read_all};
+use dcr_base::{Disk, Gate, Sink, Status};
 use dcr_cluster::{Finished, OpenRefused};
 use dcr_engine::{ordered_is_told, run_case};
 use dcr_graph::{Marking, Name};
@@ -29,43 +27,9 @@ use std::alloc::Global;
 use std::sync::Wait;
 use std::thread::Threads;
 
-// The most bytes of all stages.
-const MAX_BYTES: usize = 16_777_216;
-
-/// Reads stages to their end, a case in each line, runs one after the other, each from where the one before it ended, and
-/// writes the report of each when it has been run.
-pub(crate) fn adapt<
-    I: Source,
-    O: Sink,
-    D: Disk + Send,
-    G: Gate + Drop + Sync,
-    R: Threads + Wait + Sync,
->(rt: &R, alloc: Global, input: &mut I, output: &mut O, disk: D, gate: G) -> (Answer, D)
-    ensures answers { AnswersStages (I.left input.old) (I.has_ended input.new) (O.taken output.old) (O.taken output.new)
-        result.0.status result.0.closed }
-    ensures reports { result.0.status ≡ Status.Done → WroteReports (O.taken output.old) (O.taken output.new) }
-    ensures world { result.0.world ≡ None }
-    ensures disk { result.1 ≡ disk }
-    ensures asked { TookAtMost 16777217 (I.left input.old) (I.left input.new) }
-    ensures ended { result.0.status ≡ Status.Done → I.has_ended input.new }
-    ensures none_left { result.0.status ≡ Status.Done → IsAtEnd (I.left input.new) }
-    ensures read_counted { result.0.status ≡ Status.ReadFault → Rose (I.read_faults input.old) (I.read_faults input.new) }
-    ensures write_counted { result.0.status ≡ Status.WriteFault → Rose (O.write_faults output.old) (O.write_faults output.new) }
-    ensures no_read_fault { result.0.status ≢ Status.ReadFault → I.read_faults input.new ≡ I.read_faults input.old }
-    ensures no_write_fault { result.0.status ≢ Status.WriteFault → O.write_faults output.new ≡ O.write_faults output.old }
-    ensures reads_never_fall { I.read_faults input.old ≤ I.read_faults input.new }
-    ensures writes_never_fall { O.write_faults output.old ≤ O.write_faults output.new }
-{
-    match read_all(alloc, input, MAX_BYTES) {
-        Ok(bytes) => adapt_bytes(rt, alloc, &bytes, output, disk, &gate),
-        Err(ReadStop::TooLong) => (refuse_long(output), disk),
-        Err(ReadStop::ReadFault) => (silent(Status::ReadFault), disk),
-        Err(ReadStop::NoMemory) => (silent(Status::NoMemory), disk),
-    }
-}
-
-// Answers the bytes of an input.
-fn adapt_bytes<O: Sink, D: Disk + Send, G: Gate + Drop + Sync, R: Threads + Wait + Sync>(
+/// Runs stages, a case in each line, one after the other, each from where the one before it ended, and writes the report of
+/// each when it has been run.
+pub(crate) fn adapt<O: Sink, D: Disk + Send, G: Gate + Drop + Sync, R: Threads + Wait + Sync>(
     rt: &R,
     alloc: Global,
     bytes: &[u8],
@@ -74,14 +38,9 @@ fn adapt_bytes<O: Sink, D: Disk + Send, G: Gate + Drop + Sync, R: Threads + Wait
     gate: &G,
 ) -> (Answer, D)
     requires { length bytes.now ≤ 16777216 }
-    ensures answers { AnswersStages (Some bytes.now) ⊤ (O.taken output.old) (O.taken output.new) result.0.status result.0.closed }
-    ensures reports { result.0.status ≡ Status.Done → WroteReports (O.taken output.old) (O.taken output.new) }
-    ensures world { result.0.world ≡ None }
+    ensures answers { AnswersStages bytes.now (side (O.taken output.old) (O.write_faults output.old)) (side (O.taken output.new) (O.write_faults output.new))
+        result.0.status result.0.closed }
     ensures disk { result.1 ≡ disk }
-    ensures no_read_fault { result.0.status ≢ Status.ReadFault }
-    ensures counted { result.0.status ≡ Status.WriteFault → Rose (O.write_faults output.old) (O.write_faults output.new) }
-    ensures no_write_fault { result.0.status ≢ Status.WriteFault → O.write_faults output.new ≡ O.write_faults output.old }
-    ensures never_falls { O.write_faults output.old ≤ O.write_faults output.new }
 {
     // That there is a first stage.
     when_each_stage_is_refused();
@@ -100,7 +59,7 @@ fn adapt_bytes<O: Sink, D: Disk + Send, G: Gate + Drop + Sync, R: Threads + Wait
                 gate,
             )
         }
-        Err(stop) => (refuse_stages(alloc, output, &stop), disk),
+        Err(stop) => (ended(refuse_stages(alloc, output, &stop), None), disk),
     }
 }
 
@@ -120,14 +79,9 @@ fn run_stages<O: Sink, D: Disk + Send, G: Gate + Drop + Sync, R: Threads + Wait 
     requires case { IsCase case.now }
     requires rest { All IsCase rest.now }
     requires room { HasRoom (length case.now.graph.names) opening.now }
-    ensures runs { RunsStages (stages_from (case_of case.now) opening.now (map case_of rest.now)) before (O.taken output.old) (O.taken output.new)
+    ensures runs { RunsStages (stages_from (case_of case.now) opening.now (map case_of rest.now)) before (side (O.taken output.old) (O.write_faults output.old)) (side (O.taken output.new) (O.write_faults output.new))
         result.0.status result.0.closed }
-    ensures world { result.0.world ≡ None }
     ensures disk { result.1 ≡ disk }
-    ensures no_read_fault { result.0.status ≢ Status.ReadFault }
-    ensures counted { result.0.status ≡ Status.WriteFault → Rose (O.write_faults output.old) (O.write_faults output.new) }
-    ensures no_write_fault { result.0.status ≢ Status.WriteFault → O.write_faults output.new ≡ O.write_faults output.old }
-    ensures never_falls { O.write_faults output.old ≤ O.write_faults output.new }
 {
     let (ran, disk) = run_stage(rt, alloc, case, opening, disk, gate);
     let Some(closed) = ran else {
@@ -155,17 +109,6 @@ fn run_stages<O: Sink, D: Disk + Send, G: Gate + Drop + Sync, R: Threads + Wait 
         disk,
         gate,
     )
-}
-
-// How it has ended, and the run that is told.
-fn ended(status: Status, closed: Option<Closed>) -> Answer
-    ensures { result ≡ record { status = status; closed = closed; world = None } }
-{
-    Answer {
-        status,
-        closed,
-        world: None,
-    }
 }
 
 // Runs a stage from this marking, by one worker and without a tape. None where memory ran out.
@@ -204,23 +147,16 @@ fn run_stage<D: Disk + Send, G: Gate + Drop + Sync, R: Threads + Wait + Sync>(
 }
 
 // Tells why the lines of a text are no stages. Nothing is written where it is want of memory.
-fn refuse_stages<O: Sink>(alloc: Global, output: &mut O, stop: &StageStop) -> Answer
-    ensures closed { result.closed ≡ None }
-    ensures world { result.world ≡ None }
-    ensures wrote { IsSilent result.status (O.taken output.old) (O.taken output.new)
-        ⊎ ((stop.now ≢ StageStop.NoMemory) × Wrote Status.Refused (stage_line stop.now) result.status (O.taken output.old) (O.taken output.new)) }
-    ensures refused { result.status ≢ Status.Done }
-    ensures no_read_fault { result.status ≢ Status.ReadFault }
-    ensures counted { result.status ≡ Status.WriteFault → Rose (O.write_faults output.old) (O.write_faults output.new) }
-    ensures no_write_fault { result.status ≢ Status.WriteFault → O.write_faults output.new ≡ O.write_faults output.old }
-    ensures never_falls { O.write_faults output.old ≤ O.write_faults output.new }
+fn refuse_stages<O: Sink>(alloc: Global, output: &mut O, stop: &StageStop) -> Status
+    ensures { IsStarved result (side (O.taken output.old) (O.write_faults output.old)) (side (O.taken output.new) (O.write_faults output.new))
+        ⊎ ((stop.now ≢ StageStop.NoMemory) × Wrote Status.Refused (stage_line stop.now) result (side (O.taken output.old) (O.write_faults output.old)) (side (O.taken output.new) (O.write_faults output.new))) }
 {
     if let StageStop::NoMemory = stop {
-        return silent(Status::NoMemory);
+        return Status::NoMemory;
     }
     match line_of_stage(alloc, stop) {
         Ok(line) => say(output, &line, Status::Refused),
-        Err(_) => silent(Status::NoMemory),
+        Err(_) => Status::NoMemory,
     }
 }
 

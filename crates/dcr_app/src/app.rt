@@ -1,15 +1,11 @@
-ghost use Rattle.std.specs.Prelude.{◌≡◌, ◌≢◌, ◌⊎◌, ◌≤◌, Bool, false, ℕ, length, Some, None, IfSome, IsTrue};
-ghost use Rattle.std.specs.Io.KnownBytes.{IsAtEnd};
+ghost use Rattle.std.specs.Prelude.{◌≡◌, ◌≤◌, length, Some};
 ghost use Rattle.dcr_base.specs.Count.{Rose};
-ghost use Rattle.dcr_roles.specs.Accepted.{case_accepted};
-ghost use Rattle.dcr_app.specs.Adapted.{IsAnsweredStages, WroteReports};
-ghost use Rattle.dcr_app.specs.Answers.{Answers, EndsRun, EndsServing, IsApart, IsAnsweredCase, IsAnsweredReport, IsDoneThroughout, IsHeadline, IsOr, IsReading, IsReporting, IsServing, IsStored, IsTapeRefused, IsToldByOne, Refuses, SaysInvalid, SaysValid, WroteReport};
-ghost use Rattle.dcr_app.specs.Command.{command_in};
-ghost use Rattle.dcr_app.specs.Logged.{IsAnsweredLog};
-ghost use Rattle.dcr_app.specs.Outside.{TookAtMost, most_read};
-ghost use Rattle.dcr_app.specs.Stored.{KeepsContent, StandsStill, StaysSettled};
-ghost use Rattle.dcr_app.specs.Telling.{IsUnasked, LeavesDoor, doors_of};
-ghost use Rattle.dcr_app.specs.declared.command.Command.TheVariants.{Run, Serve, Replay, Load, Nodes, Conform, Adapt};
+ghost use Rattle.dcr_base.specs.Side.{side};
+ghost use Rattle.dcr_app.specs.Answers.{Answers, AnswersBytes, EndsAs, IsConverse, IsHeadline, IsUntold, Says, is_stored};
+ghost use Rattle.dcr_app.specs.Command.{HasNumbers, IsReading, command_in};
+ghost use Rattle.dcr_app.specs.Outside.{CountsWhere, FromInput, IsUnread, LeavesInput, limit_in, most_bytes};
+ghost use Rattle.dcr_app.specs.Stored.{LeavesDisk};
+ghost use Rattle.dcr_app.specs.Telling.{Leaves, doors_of};
 
 use crate::adapt::adapt;
 use crate::apart::apart;
@@ -20,7 +16,7 @@ use crate::replay::replay;
 use crate::run::run;
 use crate::say::say;
 use crate::way::Way;
-use dcr_base::{Disk, Door, Gate, Link, Sink, Source, Status};
+use dcr_base::{Disk, Door, Gate, Link, ReadStop, Sink, Source, Status, read_all};
 use dcr_engine::ordered_is_told;
 use dcr_journal::Closed;
 use dcr_node::World;
@@ -32,14 +28,19 @@ use std::alloc::Global;
 use std::sync::Wait;
 use std::thread::Threads;
 
+// The most bytes of a report, and of any other input.
+const MOST_REPORT: usize = 268_435_456;
+
+const MOST_FILE: usize = 16_777_216;
+
 /// How the program ended, the run where there was one, the door, the disk, and the sessions over links.
 #[derive(Drop)]
 pub struct End<B: Door, D> {
     /// How the program ended.
     pub status: Status,
-    /// The run of the case, where `run`, `serve` or `nodes` read one, or `load` made one, and it was executed: with `Done`,
-    /// `DiskFault`, `Full` and `DoorFault`, and with `WriteFault` where its report or line was to be written. With `NoMemory` it may be there. With
-    /// `DiskFault` it is missing where the disk failed before the first call.
+    /// The run of the case, where `run`, `serve` or `nodes` read one, or `load` made one, and it was executed, and of the last case that
+    /// `adapt` ran: with `Done`, `DiskFault`, `Full` and `DoorFault`, and with `WriteFault` where its report or line was to be written. With
+    /// `NoMemory` it may be there. With `DiskFault` it is missing where the disk failed before the first call.
     pub closed: Option<Closed>,
     /// The door that was handed in.
     pub door: B,
@@ -66,20 +67,21 @@ pub struct End<B: Door, D> {
 /// sites that talk by messages alone, over a network that loses, repeats and reorders them as its number picks, and writes the
 /// report, which is the same for every number. `conform` reads a case file, which is its first line, and an event log behind
 /// it, judges each trace of the log by the plain engine of the whole graph, and writes one line for each in order of first
-/// appearance, and then how many there are. Other words are answered by the line `usage`. A file that is no case, or whose
-/// policy fails or denies a call of its sessions, and a report of more than 268,435,456 bytes, is refused by one line that
-/// tells why, and so is a log with a bad record, and a disk that isn't empty and isn't a tape of the case that can be gone on
-/// from.
+/// appearance, and then how many there are. `adapt` reads several cases, one in each line, runs one after the other, each from
+/// where the one before it ended, and writes the report of each. Other words are answered by the line `usage`. A file that is no
+/// case, or whose policy fails or denies a call of its sessions, and an input of more than 16,777,216 bytes, or a report of more
+/// than 268,435,456, is refused by one line that tells why, and so is a log with a bad record, a case that leaves out an event
+/// of the one before, and a disk that isn't empty and isn't a tape of the case that can be gone on from.
 ///
-/// `Done` comes where the report, `valid` or the line of `load` was written, `Invalid` where `invalid` was, `Usage`, `Refused` and
-/// `TapeRefused` where their lines were. `ReadFault` comes exactly where a read failed, and then nothing was written.
-/// `DiskFault` comes where a call of the disk failed: with a run, which the failed execution ends and whose report was
-/// written; or before its first call, with nothing written. `Full` comes only in `serve`, exactly where the history has
-/// 200,000 entries, and `DoorFault` only there, where the door failed; the report was written. `WriteFault` comes exactly
-/// where a write of the output failed, and then a front of what was to be written was, and not all of it. `NoMemory` may come
-/// in the place of any other answer but that of `usage`: nothing was written then, or a front of what was to be written and
-/// not all of it; in `serve` it comes too where a session wanted memory. What is said of a run that is told holds with every
-/// status. Where none is told, the disk stands for what it stood for, and the door was not asked.
+/// `answers` is what comes of each command, and `says` what each status says. `ends` is what the program ends with where nothing
+/// fails: `Done`, or what the input or the tape is refused with, or `NoMemory`, which may come in the place of any other answer
+/// but that of `usage`; nothing was written then, or a front of what was to be written and not all of it. `ReadFault` comes
+/// exactly where a read failed (`input`), and then nothing was written; `WriteFault` exactly where a write of the output failed
+/// (`output`), and then a front of what was to be written was, and not all of it. `DiskFault` comes where a call of the disk
+/// failed (`disk`): with a run, which the failed execution ends and whose report was written; or before its first call, with
+/// nothing written. `Full` comes only in `serve`, exactly where the history has 200,000 entries, and `DoorFault` only there,
+/// where the door failed (`door`); the report was written. What is said of a run that is told holds with every status. Where
+/// none is told, the disk stands for what it stood for, and the door was not asked.
 ///
 /// It waits for its workers, they for each other's locks, and in `serve` for the door and for what is asked over its links.
 pub fn dcr<
@@ -101,140 +103,230 @@ pub fn dcr<
 ) -> End<B, D>
     ensures headline { IsHeadline D.view D.faults (doors_of B.links B.is_shut B.faults B.Link.left B.Link.taken B.Link.Rest.unread B.Link.Rest.sent
         B.Link.Rest.failed_reads B.Link.Rest.failed_writes)
-        (command_in words.now) door disk (I.left input.old) (I.has_ended input.new) (O.taken output.old) (O.taken output.new) result }
+        (command_in words.now) door disk (I.left input.old) (I.has_ended input.new) (side (O.taken output.old) (O.write_faults output.old)) (side (O.taken output.new) (O.write_faults output.new)) result }
     ensures answers { Answers D.view D.faults (doors_of B.links B.is_shut B.faults B.Link.left B.Link.taken B.Link.Rest.unread B.Link.Rest.sent
         B.Link.Rest.failed_reads B.Link.Rest.failed_writes)
-        (command_in words.now) door disk (I.left input.old) (I.has_ended input.new) (O.taken output.old) (O.taken output.new) result }
-    ensures read_counted { result.status ≡ Status.ReadFault → Rose (I.read_faults input.old) (I.read_faults input.new) }
-    ensures write_counted { result.status ≡ Status.WriteFault → Rose (O.write_faults output.old) (O.write_faults output.new) }
-    ensures disk_counted { result.status ≡ Status.DiskFault → Rose (D.faults disk) (D.faults result.disk) }
-    ensures disk_told { result.closed ≡ None → result.status ≢ Status.DiskFault → D.faults result.disk ≡ D.faults disk }
-    ensures no_read_fault { result.status ≢ Status.ReadFault → I.read_faults input.new ≡ I.read_faults input.old }
-    ensures no_write_fault { result.status ≢ Status.WriteFault → O.write_faults output.new ≡ O.write_faults output.old }
-    ensures reads_never_fall { I.read_faults input.old ≤ I.read_faults input.new }
-    ensures writes_never_fall { O.write_faults output.old ≤ O.write_faults output.new }
-    ensures disks_never_fall { D.faults disk ≤ D.faults result.disk }
-    ensures door_counted { result.status ≡ Status.DoorFault → Rose (B.faults door) (B.faults result.door) }
-    ensures no_door_fault { result.status ≡ Status.Done → B.faults result.door ≡ B.faults door }
-    ensures doors_never_fall { B.faults door ≤ B.faults result.door }
-    ensures asked { TookAtMost (most_read (command_in words.now)) (I.left input.old) (I.left input.new) }
-    ensures ended { IsReading (command_in words.now) → result.status ≡ Status.Done → I.has_ended input.new }
-    ensures none_left { IsReading (command_in words.now) → result.status ≡ Status.Done → IsAtEnd (I.left input.new) }
-
-    ensures unstored { ¬ IsStored (command_in words.now) → result.disk ≡ disk }
-    ensures still { result.closed ≡ None → StandsStill D.view disk result.disk }
-    ensures settled { result.closed ≡ None → StaysSettled D.view disk result.disk result.status }
-    ensures content { result.closed ≡ None → IsTrue (D.view disk).told → KeepsContent (I.left input.old) (D.view disk) (D.view result.disk) }
-    ensures uncalled { (result.status ≡ Status.Refused) ⊎ (result.status ≡ Status.ReadFault) → result.disk ≡ disk }
-    ensures unserved { ¬ IsServing (command_in words.now) → IsUnasked door result.door result.ends.items }
-    ensures unasked { result.closed ≡ None → IsUnasked door result.door result.ends.items }
-
-    ensures usage { command_in words.now ≡ None → (result.status ≡ Status.Usage) ⊎ (result.status ≡ Status.WriteFault) }
-    ensures usage_only { result.status ≡ Status.Usage → command_in words.now ≡ None }
-    ensures unread { ¬ IsReading (command_in words.now) → I.left input.new ≡ I.left input.old }
-    ensures refused { result.status ≡ Status.Refused
-        → Refuses (command_in words.now) (I.left input.old) (O.taken output.old) (O.taken output.new) }
-    ensures tape_refused { result.status ≡ Status.TapeRefused → IsStored (command_in words.now)
-        × IsTapeRefused (D.view disk) (D.view result.disk) (I.left input.old) (O.taken output.old) (O.taken output.new) Status.TapeRefused }
-
-    ensures report { IsReporting (command_in words.now) → result.status ≡ Status.Done
-        → WroteReport (O.taken output.old) (O.taken output.new) result.closed }
-    ensures converse { (workers : ℕ) (store : Bool) → command_in words.now ≡ Some (Run workers store)
-        → IsToldByOne workers (I.left input.old) result.closed × IsDoneThroughout (I.left input.old) result.closed }
-    ensures done { (workers : ℕ) (store : Bool) → command_in words.now ≡ Some (Run workers store)
-        → (Rose (I.read_faults input.old) (I.read_faults input.new) → ⊥)
-        → (Rose (O.write_faults output.old) (O.write_faults output.new) → ⊥)
-        → (Rose (D.faults disk) (D.faults result.disk) → ⊥)
-        → IfSome (I.left input.old) (λ bytes. IsAnsweredCase EndsRun store (D.view disk) (case_accepted bytes) result.status) }
-
-    ensures left { (sessions workers : ℕ) (store : Bool) → command_in words.now ≡ Some (Serve sessions workers store)
-        → IfSome result.closed (λ closed. LeavesDoor (doors_of B.links B.is_shut B.faults B.Link.left B.Link.taken B.Link.Rest.unread B.Link.Rest.sent
+        (command_in words.now) door disk (I.left input.old) (I.has_ended input.new) (side (O.taken output.old) (O.write_faults output.old)) (side (O.taken output.new) (O.write_faults output.new)) result }
+    ensures says { Says (command_in words.now) (D.view disk) (D.view result.disk) (I.left input.old) (side (O.taken output.old) (O.write_faults output.old)) (side (O.taken output.new) (O.write_faults output.new)) result.closed result.status }
+    ensures converse { IsConverse (command_in words.now) (I.left input.old) result.closed }
+    ensures ends { EndsAs (command_in words.now) (D.view disk) (I.left input.old) (Rose (I.read_faults input.old) (I.read_faults input.new))
+        (Rose (O.write_faults output.old) (O.write_faults output.new)) (Rose (D.faults disk) (D.faults result.disk)) (Rose (B.faults door) (B.faults result.door)) result.status }
+    ensures input { LeavesInput (limit_in (command_in words.now)) (side (I.left input.old) (I.read_faults input.old)) (side (I.left input.new) (I.read_faults input.new))
+        (I.has_ended input.new) result.status }
+    ensures output { CountsWhere (result.status ≡ Status.WriteFault) (O.write_faults output.old) (O.write_faults output.new) }
+    ensures disk { LeavesDisk (is_stored (command_in words.now)) D.view D.faults (I.left input.old) disk result.disk result.status result.closed }
+    ensures door { Leaves (doors_of B.links B.is_shut B.faults B.Link.left B.Link.taken B.Link.Rest.unread B.Link.Rest.sent
         B.Link.Rest.failed_reads B.Link.Rest.failed_writes)
-        door result.door sessions result.ends.items result.status) }
-    ensures full { result.status ≡ Status.Full → IsServing (command_in words.now)
-        × IfSome result.closed (λ closed. length closed.history.entries ≡ 200000) }
-    ensures door_failed { result.status ≡ Status.DoorFault → IsServing (command_in words.now) }
-    ensures served { (sessions workers : ℕ) (store : Bool) → command_in words.now ≡ Some (Serve sessions workers store)
-        → (Rose (I.read_faults input.old) (I.read_faults input.new) → ⊥)
-        → (Rose (O.write_faults output.old) (O.write_faults output.new) → ⊥)
-        → (Rose (D.faults disk) (D.faults result.disk) → ⊥)
-        → (Rose (B.faults door) (B.faults result.door) → ⊥)
-        → IfSome (I.left input.old) (λ bytes. IsAnsweredCase EndsServing store (D.view disk) (case_accepted bytes) result.status) }
-
-    ensures valid { command_in words.now ≡ Some Replay → result.status ≡ Status.Done
-        → SaysValid (I.left input.old) (O.taken output.old) (O.taken output.new) }
-    ensures invalid { result.status ≡ Status.Invalid
-        → SaysInvalid (I.left input.old) (O.taken output.old) (O.taken output.new) }
-    ensures invalid_only { result.status ≡ Status.Invalid → command_in words.now ≡ Some Replay }
-    ensures checked { command_in words.now ≡ Some Replay
-        → (Rose (I.read_faults input.old) (I.read_faults input.new) → ⊥)
-        → (Rose (O.write_faults output.old) (O.write_faults output.new) → ⊥)
-        → IfSome (I.left input.old) (λ bytes. IsAnsweredReport bytes result.status) }
-
-    ensures apart { (number : ℕ) → command_in words.now ≡ Some (Nodes number)
-        → (Rose (I.read_faults input.old) (I.read_faults input.new) → ⊥)
-        → (Rose (O.write_faults output.old) (O.write_faults output.new) → ⊥)
-        → IfSome (I.left input.old) (λ bytes. IsAnsweredCase EndsRun false (D.view disk) (case_accepted bytes) result.status) }
-    ensures conformed { command_in words.now ≡ Some Conform
-        → (Rose (I.read_faults input.old) (I.read_faults input.new) → ⊥)
-        → (Rose (O.write_faults output.old) (O.write_faults output.new) → ⊥)
-        → IfSome (I.left input.old) (λ bytes. IsAnsweredLog bytes result.status) }
-    ensures adapted { command_in words.now ≡ Some Adapt
-        → (Rose (I.read_faults input.old) (I.read_faults input.new) → ⊥)
-        → (Rose (O.write_faults output.old) (O.write_faults output.new) → ⊥)
-        → IfSome (I.left input.old) (λ bytes. IsAnsweredStages bytes result.status) }
-    ensures reports { command_in words.now ≡ Some Adapt → result.status ≡ Status.Done → WroteReports (O.taken output.old) (O.taken output.new) }
-    ensures no_world { ¬ IsApart (command_in words.now) → result.world ≡ None }
-    ensures untold { result.closed ≡ None → result.world ≡ None }
-
-    ensures loaded { (number : ℕ) → command_in words.now ≡ Some (Load number)
-        → (Rose (O.write_faults output.old) (O.write_faults output.new) → ⊥) → IsOr Status.Done result.status }
+        (command_in words.now) result.closed door result.door result.ends.items result.status }
 {
-    let (answer, disk) = match command_of(words) {
-        None => (say(output, b"usage\n", Status::Usage), disk),
-        Some(Command::Run { workers, store }) => {
-            // What the bytes of a case say, for the clauses on `run`, which run is the told one, and what a content stands
-            // for.
-            when_each_refusal_comes();
-            ordered_is_told();
-            one_list();
-            no_cause();
+    // What the bytes of a case say, which run is the told one, what a content stands for, and what a verdict means.
+    when_each_refusal_comes();
+    ordered_is_told();
+    one_list();
+    no_cause();
+    valid_is_report();
+    a_text_has_one_verdict();
+    the_first_wrong_line_is_told();
+    answer(rt, alloc, words, input, output, door, disk, gate)
+}
+
+// Answers the words of a command.
+fn answer<
+    I: Source,
+    O: Sink,
+    B: Door<Link: Link<Rest: Send> + Send> + Send,
+    D: Disk + Send,
+    G: Gate + Drop + Sync,
+    R: Threads + Wait + Sync,
+>(
+    rt: &R,
+    alloc: Global,
+    words: &[String],
+    input: &mut I,
+    output: &mut O,
+    door: B,
+    disk: D,
+    gate: G,
+) -> End<B, D>
+    ensures answers { Answers D.view D.faults (doors_of B.links B.is_shut B.faults B.Link.left B.Link.taken B.Link.Rest.unread B.Link.Rest.sent
+        B.Link.Rest.failed_reads B.Link.Rest.failed_writes)
+        (command_in words.now) door disk (I.left input.old) (I.has_ended input.new) (side (O.taken output.old) (O.write_faults output.old)) (side (O.taken output.new) (O.write_faults output.new)) result }
+    ensures input { LeavesInput (limit_in (command_in words.now)) (side (I.left input.old) (I.read_faults input.old)) (side (I.left input.new) (I.read_faults input.new))
+        (I.has_ended input.new) result.status }
+    ensures disk { LeavesDisk (is_stored (command_in words.now)) D.view D.faults (I.left input.old) disk result.disk result.status result.closed }
+    ensures door { Leaves (doors_of B.links B.is_shut B.faults B.Link.left B.Link.taken B.Link.Rest.unread B.Link.Rest.sent
+        B.Link.Rest.failed_reads B.Link.Rest.failed_writes)
+        (command_in words.now) result.closed door result.door result.ends.items result.status }
+{
+    match command_of(words) {
+        None => End {
+            status: say(output, b"usage\n", Status::Usage),
+            closed: None,
+            door,
+            disk,
+            ends: Vec::new(alloc),
+            world: None,
+        },
+        Some(Command::Load { number }) => {
+            let (answer, disk) = load(rt, alloc, number, output, disk, gate);
+            End {
+                status: answer.status,
+                closed: answer.closed,
+                door,
+                disk,
+                ends: Vec::new(alloc),
+                world: None,
+            }
+        }
+        Some(command) => read_input(rt, alloc, command, input, output, door, disk, gate),
+    }
+}
+
+// Reads the input of a command to its end, and answers it.
+fn read_input<
+    I: Source,
+    O: Sink,
+    B: Door<Link: Link<Rest: Send> + Send> + Send,
+    D: Disk + Send,
+    G: Gate + Drop + Sync,
+    R: Threads + Wait + Sync,
+>(
+    rt: &R,
+    alloc: Global,
+    command: Command,
+    input: &mut I,
+    output: &mut O,
+    door: B,
+    disk: D,
+    gate: G,
+) -> End<B, D>
+    requires numbers { HasNumbers command }
+    requires reads { IsReading command }
+    ensures reads { IsReading command }
+    ensures answers { FromInput (most_bytes command) (I.left input.old) (I.has_ended input.new) (side (O.taken output.old) (O.write_faults output.old)) (side (O.taken output.new) (O.write_faults output.new)) result.status (IsUntold result)
+        (λ bytes. AnswersBytes D.view D.faults (doors_of B.links B.is_shut B.faults B.Link.left B.Link.taken B.Link.Rest.unread B.Link.Rest.sent
+        B.Link.Rest.failed_reads B.Link.Rest.failed_writes)
+        command door disk bytes (side (O.taken output.old) (O.write_faults output.old)) (side (O.taken output.new) (O.write_faults output.new)) result) }
+    ensures input { LeavesInput (Some (most_bytes command)) (side (I.left input.old) (I.read_faults input.old)) (side (I.left input.new) (I.read_faults input.new))
+        (I.has_ended input.new) result.status }
+    ensures disk { LeavesDisk (is_stored (Some command)) D.view D.faults (I.left input.old) disk result.disk result.status result.closed }
+    ensures door { Leaves (doors_of B.links B.is_shut B.faults B.Link.left B.Link.taken B.Link.Rest.unread B.Link.Rest.sent
+        B.Link.Rest.failed_reads B.Link.Rest.failed_writes)
+        (Some command) result.closed door result.door result.ends.items result.status }
+{
+    match read_all(alloc, input, limit_of(command)) {
+        Ok(bytes) => answer_bytes(rt, alloc, command, &bytes, output, door, disk, gate),
+        Err(stop) => End {
+            status: unread(stop, output),
+            closed: None,
+            door,
+            disk,
+            ends: Vec::new(alloc),
+            world: None,
+        },
+    }
+}
+
+// Tells why an input was not read to its end. Takes no memory.
+fn unread<O: Sink>(stop: ReadStop, output: &mut O) -> Status
+    ensures { IsUnread stop result (side (O.taken output.old) (O.write_faults output.old)) (side (O.taken output.new) (O.write_faults output.new)) }
+{
+    match stop {
+        ReadStop::TooLong => say(output, b"refused 1 too-long\n", Status::Refused),
+        ReadStop::ReadFault => Status::ReadFault,
+        ReadStop::NoMemory => Status::NoMemory,
+    }
+}
+
+// The most bytes of what a command reads.
+fn limit_of(command: Command) -> usize
+    ensures { result ≡ most_bytes command }
+{
+    match command {
+        Command::Replay => MOST_REPORT,
+        _ => MOST_FILE,
+    }
+}
+
+// Answers the bytes of an input.
+fn answer_bytes<
+    O: Sink,
+    B: Door<Link: Link<Rest: Send> + Send> + Send,
+    D: Disk + Send,
+    G: Gate + Drop + Sync,
+    R: Threads + Wait + Sync,
+>(
+    rt: &R,
+    alloc: Global,
+    command: Command,
+    bytes: &[u8],
+    output: &mut O,
+    door: B,
+    disk: D,
+    gate: G,
+) -> End<B, D>
+    requires numbers { HasNumbers command }
+    requires reads { IsReading command }
+    requires few { length bytes.now ≤ most_bytes command }
+    ensures answers { AnswersBytes D.view D.faults (doors_of B.links B.is_shut B.faults B.Link.left B.Link.taken B.Link.Rest.unread B.Link.Rest.sent
+        B.Link.Rest.failed_reads B.Link.Rest.failed_writes)
+        command door disk bytes.now (side (O.taken output.old) (O.write_faults output.old)) (side (O.taken output.new) (O.write_faults output.new)) result }
+    ensures disk { LeavesDisk (is_stored (Some command)) D.view D.faults (Some bytes.now) disk result.disk result.status result.closed }
+    ensures door { Leaves (doors_of B.links B.is_shut B.faults B.Link.left B.Link.taken B.Link.Rest.unread B.Link.Rest.sent
+        B.Link.Rest.failed_reads B.Link.Rest.failed_writes)
+        (Some command) result.closed door result.door result.ends.items result.status }
+{
+    match command {
+        Command::Run { workers, store } => {
             let own = Way::Run { workers };
-            return run(rt, alloc, own, store, input, output, door, disk, gate);
+            run(rt, alloc, own, store, bytes, output, door, disk, gate)
         }
-        Some(
-            Command::Serve {
-                sessions,
-                workers,
-                store,
-            },
-        ) => {
-            // The same but for the order, which is that of the locks.
-            when_each_refusal_comes();
-            one_list();
-            no_cause();
+        Command::Serve {
+            sessions,
+            workers,
+            store,
+        } => {
             let links = Way::Serve { sessions, workers };
-            return run(rt, alloc, links, store, input, output, door, disk, gate);
+            run(rt, alloc, links, store, bytes, output, door, disk, gate)
         }
-        Some(Command::Replay) => {
-            // What the definition of the first wrong line says, for the clauses on `replay`.
-            valid_is_report();
-            a_text_has_one_verdict();
-            the_first_wrong_line_is_told();
-            (replay(alloc, input, output), disk)
+        Command::Replay => End {
+            status: replay(alloc, bytes, output),
+            closed: None,
+            door,
+            disk,
+            ends: Vec::new(alloc),
+            world: None,
+        },
+        Command::Load { .. } => unreachable!(),
+        Command::Nodes { number } => {
+            let (answer, world) = apart(alloc, number, bytes, output);
+            End {
+                status: answer.status,
+                closed: answer.closed,
+                door,
+                disk,
+                ends: Vec::new(alloc),
+                world,
+            }
         }
-        Some(Command::Load { number }) => load(rt, alloc, number, output, disk, gate),
-        Some(Command::Nodes { number }) => {
-            // What the bytes of a case say, for the clause on `nodes`.
-            when_each_refusal_comes();
-            (apart(alloc, number, input, output), disk)
+        Command::Conform => End {
+            status: conform(rt, alloc, bytes, output),
+            closed: None,
+            door,
+            disk,
+            ends: Vec::new(alloc),
+            world: None,
+        },
+        Command::Adapt => {
+            let (answer, disk) = adapt(rt, alloc, bytes, output, disk, &gate);
+            End {
+                status: answer.status,
+                closed: answer.closed,
+                door,
+                disk,
+                ends: Vec::new(alloc),
+                world: None,
+            }
         }
-        Some(Command::Conform) => {
-            // What the first line says, for the clause on `conform`.
-            when_each_refusal_comes();
-            (conform(rt, alloc, input, output), disk)
-        }
-        Some(Command::Adapt) => adapt(rt, alloc, input, output, disk, gate),
-    };
-    answer.over(door, disk, Vec::new(alloc))
+    }
 }

@@ -1,17 +1,17 @@
 // The command `load`.
-ghost use Rattle.std.specs.Prelude.{◌≡◌, ◌≢◌, ◌⊎◌, ◌+◌, ◌<◌, ◌≤◌, ◌++◌, decimal, length, IfOk, OnOk};
+ghost use Rattle.std.specs.Prelude.{◌≡◌, ◌+◌, ◌<◌, ◌++◌, decimal, length, IfOk, OnOk};
 ghost use Rattle.std.specs.Option.{ForSome};
-ghost use Rattle.dcr_base.specs.Count.{Rose};
+ghost use Rattle.dcr_base.specs.Side.{side};
 ghost use Rattle.dcr_json.specs.Built.{case_of, IsCase};
 ghost use Rattle.dcr_load.specs.Load.{load};
 ghost use Rattle.dcr_replay.specs.EntryLines.{is_done};
 ghost use Rattle.dcr_app.specs.Loaded.{AnswersLoad, count_done, count_other, load_line};
 ghost use Rattle.dcr_app.specs.Outside.{Wrote};
 
-use crate::answer::Answer;
-use crate::say::silent;
+use crate::answer::{Answer, ended};
+use crate::say::say;
 use crate::stored::disk_of;
-use dcr_base::{Disk, Gate, Sink, Status, write_all};
+use dcr_base::{Disk, Gate, Sink, Status};
 use dcr_cluster::{Finished, OpenRefused};
 use dcr_engine::{ordered_is_told, run_case};
 use dcr_graph::Graph;
@@ -35,20 +35,15 @@ pub(crate) fn load<O: Sink, D: Disk + Send, G: Gate + Drop + Sync, R: Threads + 
     disk: D,
     gate: G,
 ) -> (Answer, D)
-    ensures answers { AnswersLoad number (O.taken output.old) (O.taken output.new) result.0.status result.0.closed }
+    ensures answers { AnswersLoad number (side (O.taken output.old) (O.write_faults output.old)) (side (O.taken output.new) (O.write_faults output.new)) result.0.status result.0.closed }
     ensures disk { result.1 ≡ disk }
-    ensures world { result.0.world ≡ None }
-    ensures ends { (result.0.status ≡ Status.Done) ⊎ ((result.0.status ≡ Status.WriteFault) ⊎ (result.0.status ≡ Status.NoMemory)) }
-    ensures counted { result.0.status ≡ Status.WriteFault → Rose (O.write_faults output.old) (O.write_faults output.new) }
-    ensures no_write_fault { result.0.status ≢ Status.WriteFault → O.write_faults output.new ≡ O.write_faults output.old }
-    ensures never_falls { O.write_faults output.old ≤ O.write_faults output.new }
 {
     let Ok(text) = load_text(alloc, number) else {
-        return (silent(Status::NoMemory), disk);
+        return (ended(Status::NoMemory, None), disk);
     };
     // The text is that of a case, which is refused for want of memory alone.
     let Ok(case) = read_case(alloc, &text) else {
-        return (silent(Status::NoMemory), disk);
+        return (ended(Status::NoMemory, None), disk);
     };
     load_case(rt, alloc, number, &case, output, disk, gate)
 }
@@ -65,13 +60,8 @@ fn load_case<O: Sink, D: Disk + Send, G: Gate + Drop + Sync, R: Threads + Wait +
 ) -> (Answer, D)
     requires case { IsCase case.now }
     requires load { case_of case.now ≡ load number }
-    ensures answers { AnswersLoad number (O.taken output.old) (O.taken output.new) result.0.status result.0.closed }
+    ensures answers { AnswersLoad number (side (O.taken output.old) (O.write_faults output.old)) (side (O.taken output.new) (O.write_faults output.new)) result.0.status result.0.closed }
     ensures disk { result.1 ≡ disk }
-    ensures world { result.0.world ≡ None }
-    ensures ends { (result.0.status ≡ Status.Done) ⊎ ((result.0.status ≡ Status.WriteFault) ⊎ (result.0.status ≡ Status.NoMemory)) }
-    ensures counted { result.0.status ≡ Status.WriteFault → Rose (O.write_faults output.old) (O.write_faults output.new) }
-    ensures no_write_fault { result.0.status ≢ Status.WriteFault → O.write_faults output.new ≡ O.write_faults output.old }
-    ensures never_falls { O.write_faults output.old ≤ O.write_faults output.new }
 {
     // Which run is the told one, and how many calls it has.
     ordered_is_told();
@@ -91,15 +81,10 @@ fn load_case<O: Sink, D: Disk + Send, G: Gate + Drop + Sync, R: Threads + Wait +
     match ran {
         Ok(Finished { closed, store }) => {
             let status = tell(alloc, number, &case.graph, &closed, output);
-            let answer = Answer {
-                status,
-                closed: Some(closed),
-                world: None,
-            };
-            (answer, disk_of(store))
+            (ended(status, Some(closed)), disk_of(store))
         }
         // Without a tape a run is refused for want of memory alone.
-        Err(OpenRefused { store, .. }) => (silent(Status::NoMemory), disk_of(store)),
+        Err(OpenRefused { store, .. }) => (ended(Status::NoMemory, None), disk_of(store)),
     }
 }
 
@@ -112,20 +97,13 @@ fn tell<O: Sink>(
     output: &mut O,
 ) -> Status
     requires { ForSome closed.now.waits (λ e. e < length graph.now.names) }
-    ensures wrote { Wrote Status.Done (load_line number graph.now.names closed.now.history.entries closed.now.waits) result
-        (O.taken output.old) (O.taken output.new) }
-    ensures ends { (result ≡ Status.Done) ⊎ ((result ≡ Status.WriteFault) ⊎ (result ≡ Status.NoMemory)) }
-    ensures counted { result ≡ Status.WriteFault → Rose (O.write_faults output.old) (O.write_faults output.new) }
-    ensures no_write_fault { result ≢ Status.WriteFault → O.write_faults output.new ≡ O.write_faults output.old }
-    ensures never_falls { O.write_faults output.old ≤ O.write_faults output.new }
+    ensures { Wrote Status.Done (load_line number graph.now.names closed.now.history.entries closed.now.waits) result
+        (side (O.taken output.old) (O.write_faults output.old)) (side (O.taken output.new) (O.write_faults output.new)) }
 {
     let Ok(line) = line_of(alloc, number, graph, closed) else {
         return Status::NoMemory;
     };
-    match write_all(output, &line) {
-        Ok(()) => Status::Done,
-        Err(_) => Status::WriteFault,
-    }
+    say(output, &line, Status::Done)
 }
 
 // The line about a run.

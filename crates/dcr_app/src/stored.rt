@@ -1,6 +1,6 @@
 // A case that is executed over a store.
 ghost use Rattle.std.specs.Prelude.{◌≡◌, ◌≢◌, ◌≤◌, length, false, IsTrue};
-ghost use Rattle.dcr_base.specs.Count.{Rose};
+ghost use Rattle.dcr_base.specs.Side.{side};
 ghost use Rattle.dcr_graph.specs.Cause.{waits};
 ghost use Rattle.dcr_graph.specs.GraphValue.{rules_of};
 ghost use Rattle.dcr_graph.specs.Projection.{HasRoom};
@@ -10,11 +10,10 @@ ghost use Rattle.dcr_cell.specs.Stored.{MayBegin};
 ghost use Rattle.dcr_json.specs.Built.{case_of, IsCase};
 ghost use Rattle.dcr_roles.specs.Accepted.{IsAccepted};
 ghost use Rattle.dcr_report.specs.Report.{report_text};
-ghost use Rattle.dcr_app.specs.Answers.{WroteReport};
 ghost use Rattle.dcr_app.specs.Command.{AreSessions, AreWorkers, IsWay};
 ghost use Rattle.dcr_app.specs.Outside.{IsOfReport, Wrote};
 ghost use Rattle.dcr_app.specs.Stored.{EndsOver, disk_in, tape_cause};
-ghost use Rattle.dcr_app.specs.Telling.{IsDueBy, IsUnasked, Leaves, LeavesWith, by_workers, doors_of, over_links, told_by};
+ghost use Rattle.dcr_app.specs.Telling.{IsDueBy, IsUnasked, LeavesBy, LeavesWith, by_workers, doors_of, over_links, told_by};
 
 use crate::End;
 use crate::say::refuse_tape;
@@ -59,18 +58,12 @@ pub(crate) fn run_over<
     ensures over { EndsOver D.view D.faults (told_by (doors_of B.links B.is_shut B.faults B.Link.left B.Link.taken B.Link.Rest.unread B.Link.Rest.sent
         B.Link.Rest.failed_reads B.Link.Rest.failed_writes)
         door result.door result.ends.items way)
-        (case_of accepted.now.case) accepted.now.policy old.now store result.disk (O.taken output.old) (O.taken output.new)
+        (case_of accepted.now.case) accepted.now.policy old.now store result.disk (side (O.taken output.old) (O.write_faults output.old)) (side (O.taken output.new) (O.write_faults output.new))
         result.status result.closed }
-    ensures door { Leaves (doors_of B.links B.is_shut B.faults B.Link.left B.Link.taken B.Link.Rest.unread B.Link.Rest.sent
+    ensures door { LeavesBy (doors_of B.links B.is_shut B.faults B.Link.left B.Link.taken B.Link.Rest.unread B.Link.Rest.sent
         B.Link.Rest.failed_reads B.Link.Rest.failed_writes)
         way result.closed door result.door result.ends.items result.status }
-    ensures report { result.status ≡ Status.Done → WroteReport (O.taken output.old) (O.taken output.new) result.closed }
     ensures world { result.world ≡ None }
-    ensures no_read_fault { result.status ≢ Status.ReadFault }
-    ensures unrefused { result.status ≢ Status.Refused }
-    ensures counted { result.status ≡ Status.WriteFault → Rose (O.write_faults output.old) (O.write_faults output.new) }
-    ensures no_write_fault { result.status ≢ Status.WriteFault → O.write_faults output.new ≡ O.write_faults output.old }
-    ensures never_falls { O.write_faults output.old ≤ O.write_faults output.new }
 {
     match way {
         Way::Run { workers } => by_workers(
@@ -105,16 +98,10 @@ fn by_workers<
     requires few_old { length old.now ≤ 1000000 }
     requires begins { MayBegin D.view old.now store }
     ensures over { EndsOver D.view D.faults (by_workers workers)
-        (case_of accepted.now.case) accepted.now.policy old.now store result.disk (O.taken output.old) (O.taken output.new)
+        (case_of accepted.now.case) accepted.now.policy old.now store result.disk (side (O.taken output.old) (O.write_faults output.old)) (side (O.taken output.new) (O.write_faults output.new))
         result.status result.closed }
     ensures door { IsUnasked door result.door result.ends.items }
-    ensures report { result.status ≡ Status.Done → WroteReport (O.taken output.old) (O.taken output.new) result.closed }
     ensures world { result.world ≡ None }
-    ensures no_read_fault { result.status ≢ Status.ReadFault }
-    ensures unrefused { result.status ≢ Status.Refused }
-    ensures counted { result.status ≡ Status.WriteFault → Rose (O.write_faults output.old) (O.write_faults output.new) }
-    ensures no_write_fault { result.status ≢ Status.WriteFault → O.write_faults output.new ≡ O.write_faults output.old }
-    ensures never_falls { O.write_faults output.old ≤ O.write_faults output.new }
 {
     let case = &accepted.case;
     let ran = run_case(
@@ -142,9 +129,14 @@ fn by_workers<
                 world: None,
             }
         }
-        Err(OpenRefused { cause, store }) => {
-            refuse_tape(alloc, output, cause_of(cause)).over(door, disk_of(store), Vec::new(alloc))
-        }
+        Err(OpenRefused { cause, store }) => End {
+            status: refuse_tape(alloc, output, cause_of(cause)),
+            closed: None,
+            door,
+            disk: disk_of(store),
+            ends: Vec::new(alloc),
+            world: None,
+        },
     }
 }
 
@@ -175,18 +167,12 @@ fn over_links<
     ensures over { EndsOver D.view D.faults (over_links (doors_of B.links B.is_shut B.faults B.Link.left B.Link.taken B.Link.Rest.unread B.Link.Rest.sent
         B.Link.Rest.failed_reads B.Link.Rest.failed_writes)
         door result.door sessions result.ends.items)
-        (case_of accepted.now.case) accepted.now.policy old.now store result.disk (O.taken output.old) (O.taken output.new)
+        (case_of accepted.now.case) accepted.now.policy old.now store result.disk (side (O.taken output.old) (O.write_faults output.old)) (side (O.taken output.new) (O.write_faults output.new))
         result.status result.closed }
     ensures door { LeavesWith (doors_of B.links B.is_shut B.faults B.Link.left B.Link.taken B.Link.Rest.unread B.Link.Rest.sent
         B.Link.Rest.failed_reads B.Link.Rest.failed_writes)
         sessions result.closed door result.door result.ends.items result.status }
-    ensures report { result.status ≡ Status.Done → WroteReport (O.taken output.old) (O.taken output.new) result.closed }
     ensures world { result.world ≡ None }
-    ensures no_read_fault { result.status ≢ Status.ReadFault }
-    ensures unrefused { result.status ≢ Status.Refused }
-    ensures counted { result.status ≡ Status.WriteFault → Rose (O.write_faults output.old) (O.write_faults output.new) }
-    ensures no_write_fault { result.status ≢ Status.WriteFault → O.write_faults output.new ≡ O.write_faults output.old }
-    ensures never_falls { O.write_faults output.old ≤ O.write_faults output.new }
 {
     let case = &accepted.case;
     let served = serve_case(
@@ -226,7 +212,14 @@ fn over_links<
         }
         Err(CaseUnserved { refused, door }) => {
             let OpenRefused { cause, store } = refused;
-            refuse_tape(alloc, output, cause_of(cause)).over(door, disk_of(store), Vec::new(alloc))
+            End {
+                status: refuse_tape(alloc, output, cause_of(cause)),
+                closed: None,
+                door,
+                disk: disk_of(store),
+                ends: Vec::new(alloc),
+                world: None,
+            }
         }
     }
 }
@@ -268,13 +261,8 @@ pub(crate) fn report<O: Sink>(
     requires verdict { closed.now.waits ≡ waits (length case.now.graph.names)
         (after (rules_of case.now.graph) closed.now.opening closed.now.history.entries) }
     requires due { IsOfReport due }
-    ensures wrote { Wrote due (report_text case.now.nested case.now.cover closed.now.opening closed.now.history.entries) result
-        (O.taken output.old) (O.taken output.new) }
-    ensures no_read_fault { result ≢ Status.ReadFault }
-    ensures accepted { result ≢ Status.Refused }
-    ensures counted { result ≡ Status.WriteFault → Rose (O.write_faults output.old) (O.write_faults output.new) }
-    ensures no_write_fault { result ≢ Status.WriteFault → O.write_faults output.new ≡ O.write_faults output.old }
-    ensures never_falls { O.write_faults output.old ≤ O.write_faults output.new }
+    ensures { Wrote due (report_text case.now.nested case.now.cover closed.now.opening closed.now.history.entries) result
+        (side (O.taken output.old) (O.write_faults output.old)) (side (O.taken output.new) (O.write_faults output.new)) }
 {
     match write_report(
         alloc,
@@ -309,14 +297,9 @@ fn report_served<O: Sink>(
     ensures wrote { (due : Status) × IsDueBy (EndsWithoutFault closed.now.history.entries) (length closed.now.history.entries ≡ 200000)
         (IsTrue door_failed) due
         × Wrote due (report_text case.now.nested case.now.cover closed.now.opening closed.now.history.entries) result
-        (O.taken output.old) (O.taken output.new) }
+        (side (O.taken output.old) (O.write_faults output.old)) (side (O.taken output.new) (O.write_faults output.new)) }
     ensures wanted { IsTrue no_memory → result ≡ Status.NoMemory }
     ensures unfailed { result ≡ Status.Done → door_failed ≡ false }
-    ensures no_read_fault { result ≢ Status.ReadFault }
-    ensures accepted { result ≢ Status.Refused }
-    ensures counted { result ≡ Status.WriteFault → Rose (O.write_faults output.old) (O.write_faults output.new) }
-    ensures no_write_fault { result ≢ Status.WriteFault → O.write_faults output.new ≡ O.write_faults output.old }
-    ensures never_falls { O.write_faults output.old ≤ O.write_faults output.new }
 {
     let due = due_served(closed, door_failed);
     if no_memory {

@@ -3,10 +3,10 @@ use Rattle.std.specs.Io.KnownBytes.{Appends}
 use Rattle.std.specs.Vec.Iter.{into_iter_items}
 use Rattle.std.proofs.lemmas.List.{append-nil}
 use Rattle.std.specs.Process.{exit_status}
+use Rattle.dcr_base.specs.Side.{side}
 use Rattle.dcr_app.specs.Command.{command_in}
 use Rattle.dcr_app.specs.Telling.{doors_of}
 use Rattle.dcr.specs.Exit.{Exits, IsUntouched, Outside, outside}
-use Rattle.dcr.specs.declared.Unused.{Unused}
 use Rattle.dcr.proofs.program.Goals as goal
 
 appends_nothing : (had : Option (List ℕ)) → Appends had had []
@@ -14,13 +14,13 @@ appends_nothing None = tt
 appends_nothing (Some xs) = sym (append-nil xs)
 
 untouched : {D B : Type 0} (door : B) (disk : D) (was : Outside) → IsUntouched door disk was was (record { door = door; disk = disk })
-untouched door disk was = record { read = refl; wrote = appends_nothing was.taken; reads = refl; writes = refl; same_door = refl; same_disk = refl }
+untouched door disk was = record { read = refl; wrote = (appends_nothing was.output.bytes, refl); same_door = refl; same_disk = refl }
 
 -- memory ran out while the words were gathered
 pub returns-in-Err-behind_first-clause-words : goal.returns-in-Err-behind_first-clause-words
 returns-in-Err-behind_first-clause-words g c =
     let input = c.args.input.now in let output = c.args.output.now in
-    let was = outside (g.I.Source.left input) (g.I.Source.has_ended input) (g.I.Source.read_faults input) (g.O.Sink.taken output) (g.O.Sink.write_faults output) in
+    let was = outside (side (g.I.Source.left input) (g.I.Source.read_faults input)) (g.I.Source.has_ended input) (side (g.O.Sink.taken output) (g.O.Sink.write_faults output)) in
     let code = exit_status c.starved.result.code in let view = g.D.Disk.view in let faults = g.D.Disk.faults in
     let doors = doors_of g.B.Door.links g.B.Door.is_shut g.B.Door.faults g.B.Link.Source.left g.B.Link.Sink.taken g.B.Link.Rest.Spent.unread g.B.Link.Rest.Spent.sent g.B.Link.Rest.Spent.failed_reads
     g.B.Link.Rest.Spent.failed_writes in
@@ -32,8 +32,8 @@ returns-in-Err-behind_first-clause-words g c =
 pub returns-in-Ok-behind_first-clause-words : goal.returns-in-Ok-behind_first-clause-words
 returns-in-Ok-behind_first-clause-words g c =
     let input = c.args.input.now in let output = c.args.output.now in let input' = c.answer.new.input in let output' = c.answer.new.output in
-    let was = outside (g.I.Source.left input) (g.I.Source.has_ended input) (g.I.Source.read_faults input) (g.O.Sink.taken output) (g.O.Sink.write_faults output) in
-    let now = outside (g.I.Source.left input') (g.I.Source.has_ended input') (g.I.Source.read_faults input') (g.O.Sink.taken output') (g.O.Sink.write_faults output') in
+    let was = outside (side (g.I.Source.left input) (g.I.Source.read_faults input)) (g.I.Source.has_ended input) (side (g.O.Sink.taken output) (g.O.Sink.write_faults output)) in
+    let now = outside (side (g.I.Source.left input') (g.I.Source.read_faults input')) (g.I.Source.has_ended input') (side (g.O.Sink.taken output') (g.O.Sink.write_faults output')) in
     let code = exit_status c.answer.result.code in let view = g.D.Disk.view in let faults = g.D.Disk.faults in
     let doors = doors_of g.B.Door.links g.B.Door.is_shut g.B.Door.faults g.B.Link.Source.left g.B.Link.Sink.taken g.B.Link.Rest.Spent.unread g.B.Link.Rest.Spent.sent g.B.Link.Rest.Spent.failed_reads
     g.B.Link.Rest.Spent.failed_writes in

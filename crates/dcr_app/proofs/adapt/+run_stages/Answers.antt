@@ -2,6 +2,7 @@ use Rattle.std.proofs.Common.{◌≡◌, ◌≢◌, List, [], ◌∷◌, map, Op
 use Rattle.std.specs.List.{All}
 use Rattle.std.proofs.lemmas.List.{nil_from_length}
 use Rattle.std.proofs.lemmas.List.Elements.{All-head, All-tail}
+use Rattle.dcr_base.specs.Side.{side}
 use Rattle.dcr_base.specs.declared.status.Status.{Status}
 use Rattle.dcr_base.specs.declared.status.Status.TheVariants.{Done, NoMemory}
 use Rattle.dcr_journal.specs.declared.closed.Closed.{Closed}
@@ -16,7 +17,7 @@ use Rattle.dcr_app.proofs.adapt.+run_stages.Goals as goal
 
 pub returns-in_default-clause-runs : goal.returns-in_default-clause-runs
 returns-in_default-clause-runs g n c =
-    let had = g.O.Sink.taken c.args.output.now in
+    let had = side (g.O.Sink.taken c.args.output.now) (g.O.Sink.write_faults c.args.output.now) in
     ends_as_told (stages_from (case_of c.args.case.now) c.args.opening.now (map case_of c.args.rest.now)) c.args.before had had NoMemory c.args.before c.ended.result c.ended.ensures
     (runs_none (case_of c.args.case.now) c.args.opening.now (map case_of c.args.rest.now) c.args.before had)
 
@@ -24,19 +25,19 @@ pub returns-then-not-matches-clause-runs : goal.returns-then-not-matches-clause-
 returns-then-not-matches-clause-runs g n c =
     let rest = map case_of c.args.rest.now in let closed = c.in-Some.closed in let case = c.args.case.now in
     let ran = subst (λ (o : Option Closed). IfSome o (RanStage case.graph case.cover.owned c.args.opening.now case.sessions)) c.in-Some.is c.run_stage-ran.ensures.ran in
-    let had = g.O.Sink.taken c.args.output.now in let took = g.O.Sink.taken c.report-status.new.output in let status = c.report-status.result in
+    let had = side (g.O.Sink.taken c.args.output.now) (g.O.Sink.write_faults c.args.output.now) in let took = side (g.O.Sink.taken c.report-status.new.output) (g.O.Sink.write_faults c.report-status.new.output) in let status = c.report-status.result in
     let other : status ≢ Done = λ done. elim c.match-matches.branch [
       | in-Done w ↦ absurd (let yes = c.if-not-matches.true in let is = w.matches-is in cc)
       | in_default-matches w ↦ absurd (w.in_default-matches.not-Done done)
     ] in
     ends_as_told (stages_from (case_of case) c.args.opening.now rest) c.args.before had took status (Some closed) c.ended-then-not-matches.result c.ended-then-not-matches.ensures
-    (stops_here case c.args.opening.now closed c.requires.case ran c.args.before rest had took status c.report-status.ensures.wrote other)
+    (stops_here case c.args.opening.now closed c.requires.case ran c.args.before rest had took status c.report-status.ensures other)
 
 pub returns-in_default-split_first-clause-runs : goal.returns-in_default-split_first-clause-runs
 returns-in_default-split_first-clause-runs g n c =
     let rest = map case_of c.args.rest.now in let closed = c.in-Some.closed in let case = c.args.case.now in
     let ran = subst (λ (o : Option Closed). IfSome o (RanStage case.graph case.cover.owned c.args.opening.now case.sessions)) c.in-Some.is c.run_stage-ran.ensures.ran in
-    let had = g.O.Sink.taken c.args.output.now in let took = g.O.Sink.taken c.report-status.new.output in
+    let had = side (g.O.Sink.taken c.args.output.now) (g.O.Sink.write_faults c.args.output.now) in let took = side (g.O.Sink.taken c.report-status.new.output) (g.O.Sink.write_faults c.report-status.new.output) in
     let done : c.report-status.result ≡ Done = (elim c.match-matches.branch [
       | in-Done w ↦ w.in-Done.is
       | in_default-matches w ↦ absurd (let no = c.if-not-matches.false in let is = w.matches-is in cc)
@@ -44,13 +45,13 @@ returns-in_default-split_first-clause-runs g n c =
     let none : c.args.rest.now ≡ [] = nil_from_length c.args.rest.now c.in_default-split_first.ensures.cases in
     ends_as_told (stages_from (case_of case) c.args.opening.now rest) c.args.before had took Done (Some closed) c.ended-in_default-split_first.result c.ended-in_default-split_first.ensures
     (ends_here case c.args.opening.now closed c.requires.case ran c.args.before rest had took (ap (λ (l : List Case). map case_of l) none)
-    (subst (λ (s : Status). Wrote Done (report_text case.nested case.cover closed.opening closed.history.entries) s had took) done c.report-status.ensures.wrote))
+    (subst (λ (s : Status). Wrote Done (report_text case.nested case.cover closed.opening closed.history.entries) s had took) done c.report-status.ensures))
 
 pub returns-in_default-carry-clause-runs : goal.returns-in_default-carry-clause-runs
 returns-in_default-carry-clause-runs g n c =
     let rest = map case_of c.args.rest.now in let closed = c.in-Some.closed in let case = c.args.case.now in
     let ran = subst (λ (o : Option Closed). IfSome o (RanStage case.graph case.cover.owned c.args.opening.now case.sessions)) c.in-Some.is c.run_stage-ran.ensures.ran in
-    let had = g.O.Sink.taken c.args.output.now in let took = g.O.Sink.taken c.report-status.new.output in
+    let had = side (g.O.Sink.taken c.args.output.now) (g.O.Sink.write_faults c.args.output.now) in let took = side (g.O.Sink.taken c.report-status.new.output) (g.O.Sink.write_faults c.report-status.new.output) in
     let done : c.report-status.result ≡ Done = (elim c.match-matches.branch [
       | in-Done w ↦ w.in-Done.is
       | in_default-matches w ↦ absurd (let no = c.if-not-matches.false in let is = w.matches-is in cc)
@@ -59,7 +60,7 @@ returns-in_default-carry-clause-runs g n c =
     let same : c.args.rest.now ≡ next ∷ behind = c.in-Some-split_first.ensures.cases.0 in
     ends_as_told (stages_from (case_of case) c.args.opening.now rest) c.args.before had took NoMemory (Some closed) c.ended-in_default-carry.result c.ended-in_default-carry.ensures
     (starves_here case c.args.opening.now closed c.requires.case ran c.args.before rest (case_of next) (map case_of behind) had took (ap (λ (l : List Case). map case_of l) same)
-    (subst (λ (s : Status). Wrote Done (report_text case.nested case.cover closed.opening closed.history.entries) s had took) done c.report-status.ensures.wrote))
+    (subst (λ (s : Status). Wrote Done (report_text case.nested case.cover closed.opening closed.history.entries) s had took) done c.report-status.ensures))
 
 pub run_stages-requires-clause-case : goal.run_stages-requires-clause-case
 run_stages-requires-clause-case g n c κs within =
@@ -75,7 +76,7 @@ pub returns-clause-runs : goal.returns-clause-runs
 returns-clause-runs g n c =
     let rest = map case_of c.args.rest.now in let closed = c.in-Some.closed in let case = c.args.case.now in
     let ran = subst (λ (o : Option Closed). IfSome o (RanStage case.graph case.cover.owned c.args.opening.now case.sessions)) c.in-Some.is c.run_stage-ran.ensures.ran in
-    let had = g.O.Sink.taken c.args.output.now in let mid = g.O.Sink.taken c.report-status.new.output in let took = g.O.Sink.taken c.run_stages.new.output in
+    let had = side (g.O.Sink.taken c.args.output.now) (g.O.Sink.write_faults c.args.output.now) in let mid = side (g.O.Sink.taken c.report-status.new.output) (g.O.Sink.write_faults c.report-status.new.output) in let took = side (g.O.Sink.taken c.run_stages.new.output) (g.O.Sink.write_faults c.run_stages.new.output) in
     let done : c.report-status.result ≡ Done = (elim c.match-matches.branch [
       | in-Done w ↦ w.in-Done.is
       | in_default-matches w ↦ absurd (let no = c.if-not-matches.false in let is = w.matches-is in cc)
@@ -86,5 +87,5 @@ returns-clause-runs g n c =
     goes_on_here case c.args.opening.now closed c.requires.case ran c.args.before rest next (map case_of behind)
     c.in-Ok.carried had mid took c.run_stages.result.0.status c.run_stages.result.0.closed (ap (λ (l : List Case). map case_of l) same)
     (carries_here case c.args.opening.now closed c.requires.case ran c.args.before next c.in-Ok.carried is_next c.in-Ok.ensures.carried)
-    (subst (λ (s : Status). Wrote Done (report_text case.nested case.cover closed.opening closed.history.entries) s had mid) done c.report-status.ensures.wrote)
+    (subst (λ (s : Status). Wrote Done (report_text case.nested case.cover closed.opening closed.history.entries) s had mid) done c.report-status.ensures)
     c.run_stages.ensures.runs

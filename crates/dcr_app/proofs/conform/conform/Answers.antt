@@ -1,30 +1,9 @@
-use Rattle.std.proofs.Common.{◌≡◌, Err, inl, refl, ap, ◌∙◌, arith, IfSome, subst, sym, inr}
-use Rattle.dcr_app.specs.Logged.{AnswersLog}
-use Rattle.dcr_app.specs.declared.answer.Answer.{Answer}
-use Rattle.dcr_app.proofs.ConformLemmas.{log_from, too_long_log}
-use Rattle.dcr_app.proofs.OutsideLemmas.{starved, took_all, unread}
+use Rattle.dcr_base.specs.Side.{side}
+use Rattle.dcr_app.proofs.ConformLemmas.{stopped_log}
+use Rattle.dcr_app.proofs.RunLemmas.{case_of_stop}
 use Rattle.dcr_app.proofs.conform.conform.Goals as goal
 
-pub returns-in-Ok-clause-answers : goal.returns-in-Ok-clause-answers
-returns-in-Ok-clause-answers g c =
-    let left = g.I.Source.left c.args.input.now in
-    let all = subst (λ text. IfSome left (λ it. text ≡ it)) (sym c.deref.ensures.value) c.in-Ok.ensures.all in
-    let had = g.O.Sink.taken c.args.output.now in let took = g.O.Sink.taken c.conform_bytes.new.output in
-    subst (λ (end : Answer). AnswersLog left (g.I.Source.has_ended c.read_all.new.source) had took end.status) (sym c.silent.ensures)
-    (log_from left (g.I.Source.has_ended c.read_all.new.source) c.deref.result.now had took c.conform_bytes.result all c.in-Ok.ensures.has_ended c.conform_bytes.ensures.answers)
-
-pub returns-in-Ok-clause-asked : goal.returns-in-Ok-clause-asked
-returns-in-Ok-clause-asked g c =
-    took_all 16777216 16777217 (g.I.Source.left c.args.input.now) (g.I.Source.left c.read_all.new.source) c.in-Ok.bytes.items
-    refl (omega (arith, c.in-Ok.ensures.within, c.in-Ok.bytes.ok)) c.in-Ok.ensures.all c.in-Ok.ensures.told c.in-Ok.ensures.ended
-
-pub returns-in-Err-TooLong-clause-answers : goal.returns-in-Err-TooLong-clause-answers
-returns-in-Err-TooLong-clause-answers g c =
-    too_long_log (g.I.Source.left c.args.input.now) (g.I.Source.has_ended c.read_all.new.source) (g.O.Sink.taken c.args.output.now) (g.O.Sink.taken c.refuse_long.new.output) c.refuse_long.result.status
-    (c.read_all.ensures.too_long (c.in-Err-TooLong.is ∙ ap Err c.in-Err-TooLong.field-0-is)) (inr c.refuse_long.ensures.wrote)
-
-pub returns-in-Err-ReadFault-clause-answers : goal.returns-in-Err-ReadFault-clause-answers
-returns-in-Err-ReadFault-clause-answers g c = inl (unread c.silent-in-Err-ReadFault.result (g.O.Sink.taken c.args.output.now) c.silent-in-Err-ReadFault.ensures)
-
-pub returns-in-Err-NoMemory-clause-answers : goal.returns-in-Err-NoMemory-clause-answers
-returns-in-Err-NoMemory-clause-answers g c = inl (starved c.silent-in-Err-NoMemory.result (g.O.Sink.taken c.args.output.now) c.silent-in-Err-NoMemory.ensures)
+pub returns-in-Err : goal.returns-in-Err
+returns-in-Err g c =
+    stopped_log c.args.bytes.now c.parts.result.0.now c.in-Err.stop (side (g.O.Sink.taken c.args.output.now) (g.O.Sink.write_faults c.args.output.now)) (side (g.O.Sink.taken c.refuse.new.output) (g.O.Sink.write_faults c.refuse.new.output)) c.refuse.result
+    c.requires c.parts.ensures.case (λ had_memory. case_of_stop c.parts.result.0.now c.in-Err.stop (c.in-Err.ensures.says had_memory)) c.refuse.ensures.told c.refuse.ensures.starved

@@ -1,3 +1,4 @@
+use Rattle.dcr_base.specs.Side.{side}
 use Rattle.std.proofs.Common.{◌≡◌, ℕ, ◌<◌, [], List, length, sym, ap, subst}
 use Rattle.std.specs.Option.{ForSome}
 use Rattle.dcr_graph.specs.Rules.{Rules}
@@ -11,7 +12,7 @@ use Rattle.dcr_report.proofs.LegalLemmas.{waits-below}
 use Rattle.dcr_app.specs.Headline.{cluster_in}
 use Rattle.dcr_app.specs.Loaded.{load_line}
 use Rattle.dcr_app.specs.Outside.{Wrote}
-use Rattle.dcr_app.proofs.LoadLemmas.{tells_load}
+use Rattle.dcr_app.proofs.LoadLemmas.{load_starved, load_told, tells_load}
 use Rattle.dcr_app.proofs.load.load_case.Goals as goal
 
 -- what is waited for is an atom
@@ -23,11 +24,15 @@ tell-status-requires g c =
 pub returns-in-Ok-clause-answers : goal.returns-in-Ok-clause-answers
 returns-in-Ok-clause-answers g c =
     let case = c.args.case.now in let closed = c.in-Ok.field-0.closed in let last = c.in-Ok.field-0.store in
-    let view = g.D.Disk.view in let faults = g.D.Disk.faults in let had = g.O.Sink.taken c.args.output.now in let took = g.O.Sink.taken c.tell-status.new.output in
+    let view = g.D.Disk.view in let faults = g.D.Disk.faults in let had = side (g.O.Sink.taken c.args.output.now) (g.O.Sink.write_faults c.args.output.now) in let took = side (g.O.Sink.taken c.tell-status.new.output) (g.O.Sink.write_faults c.tell-status.new.output) in
     let same : cluster_of case.graph case.cover case.opening [] ≡ cluster_in (case_of case) [] =
     ap (λ (G : Rules). record { rules = G; owned = case.cover.owned; opening = case.opening; old = [] }) c.requires.case.flat.related in
     let OverCluster : ClusterId → Type 0 = λ k. HasRun view faults k (Off c.args.disk) 1 case.sessions closed last in
     let OfSessions : List (List Call) → Type 0 = λ s. HasRun view faults (cluster_of case.graph case.cover case.opening []) (Off c.args.disk) 1 s closed last in
     let ran = subst OverCluster same (subst OfSessions c.all.ensures c.in-Ok.ensures.ran) in
-    let wrote = subst (λ (names : List (List ℕ)). Wrote Done (load_line c.args.number names closed.history.entries closed.waits) c.tell-status.result had took) c.requires.case.flat.names c.tell-status.ensures.wrote in
-    tells_load view faults c.ordered_is_told.ensures c.loads_are_large.ensures.calls c.args.number (case_of case) c.args.disk closed last had took c.tell-status.result c.requires.load ran wrote
+    let wrote = subst (λ (names : List (List ℕ)). Wrote Done (load_line c.args.number names closed.history.entries closed.waits) c.tell-status.result had took) c.requires.case.flat.names c.tell-status.ensures in
+    load_told c.args.number had took c.tell-status.result closed c.ended.result c.ended.ensures
+    (tells_load view faults c.ordered_is_told.ensures c.loads_are_large.ensures.calls c.args.number (case_of case) c.args.disk closed last had took c.tell-status.result c.requires.load ran wrote)
+
+pub returns-in-Err-clause-answers : goal.returns-in-Err-clause-answers
+returns-in-Err-clause-answers g c = load_starved c.args.number (side (g.O.Sink.taken c.args.output.now) (g.O.Sink.write_faults c.args.output.now)) c.ended-in-Err.result c.ended-in-Err.ensures
