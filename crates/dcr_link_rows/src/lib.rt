@@ -1,5 +1,5 @@
-//! Links in memory that somebody asks over, and worked rows of the desk that hands them out, of the sessions over them and of
-//! the door that listens.
+//! Links in memory that somebody asks over, and worked rows of the desk that hands them out, of the sessions over them, of the
+//! door that listens, and of policies that are read by themselves.
 #![tactic(auto)]
 
 #[cfg(test)]
@@ -7,6 +7,8 @@ mod build;
 #[cfg(test)]
 mod desk;
 mod links;
+#[cfg(test)]
+mod policies;
 #[cfg(test)]
 mod rows;
 #[cfg(test)]
