@@ -2,13 +2,14 @@
 """Times runs by several workers, and what a store costs beside the syncs that it makes.
 
     bench/workers.py                    all tables
-    bench/workers.py run                the two largest cases and one of sessions without a site in common, by 1, 2, 4, 8 workers
+    bench/workers.py run                sessions at sites of their own, at one site, at 16 and at 64 sites that share, by 1 to 64 workers
     bench/workers.py before PROGRAM     by one worker, beside another build of the program, which knows the word `run`
     bench/workers.py store              5,000 executions with and without a store, beside their syncs alone
 
-Each line of the first two is the best of three runs: wall time, processor time (user and system) and peak memory of the process. The
-last two end with status 1 where the program is above its bound: 1.2 times the other build's processor time, 1.1 times the syncs.
-The tape is made in the current folder. Build first: `./dcr` builds the program.
+Each line of the first two is the least of several runs: wall time, processor time (user and system) and peak memory of the process.
+The status is 1 where the program is above a bound: by several workers 1.3 times one worker's time, 1.1 where the sites share
+nothing, and 1.5 times its processor time; 1.2 times the other build's processor time; 1.1 times the syncs. The bounds are of four
+idle processors. The tape is made in the current folder. Build first: `./dcr` builds the program.
 """
 
 import os
@@ -23,15 +24,18 @@ sys.path.insert(0, os.path.dirname(os.path.abspath(__file__)))
 from bench import PROGRAM, largest, measure  # noqa: E402
 
 EXECUTIONS = 5_000
+WORKERS = (2, 4, 8, 64)
+RUNS = 7
+MOST_APART, MOST_SHARED, MOST_CPU = 1.1, 1.3, 1.5
 MOST_BEFORE = 1.2
 MOST_SYNCS = 1.1
 
 
-def apart(groups=64, calls=200_000, seed=3):
-    """A case of as many sessions as sites, each at a site of its own whose 16 events are related to no other site's."""
+def groups(count, sessions, calls=200_000, seed=3):
+    """A case of so many sites with 16 events each, which are related to no other site's; its sessions go round the sites."""
     draw = random.Random(seed)
-    events, relations, cover, sessions = [], [], [], []
-    for k in range(groups):
+    events, relations, cover, made = [], [], [], []
+    for k in range(count):
         names = ["e%d-%d" % (k, j) for j in range(16)]
         events += ['{"name":"%s"}' % name for name in names]
         for _ in range(64):
@@ -41,31 +45,40 @@ def apart(groups=64, calls=200_000, seed=3):
                 kind = "include" if (a + b) % 4 else "exclude"
             relations.append('["%s","%s","%s"]' % (kind, names[a], names[b]))
         cover.append('{"site":"s%d","events":[%s]}' % (k, ",".join('"%s"' % name for name in names)))
-        sessions.append("[%s]" % ",".join('"exec s%d %s"' % (k, draw.choice(names)) for _ in range(calls // groups)))
-    parts = (",".join(part) for part in (events, relations, cover, sessions))
+    for k in range(sessions):
+        site = k % count
+        made.append("[%s]" % ",".join('"exec s%d e%d-%d"' % (site, site, draw.randrange(16)) for _ in range(calls // sessions)))
+    parts = (",".join(part) for part in (events, relations, cover, made))
     return ('{"graph":{"events":[%s],"relations":[%s]},"cover":[%s],"sessions":[%s]}' % tuple(parts)).encode()
 
 
 CASES = [
-    ("256 atoms, 16 sites, 200,000 calls", lambda: largest(256, 16, 1)),
-    ("1,024 atoms, 64 sites, 200,000", lambda: largest(1024, 64, 2)),
-    ("64 sessions, a site each, 200,000", apart),
+    ("64 sites apart, a session each", lambda: groups(64, 64), MOST_APART),
+    ("one site, 64 sessions", lambda: groups(1, 64), MOST_SHARED),
+    ("256 atoms, 16 sites that share", lambda: largest(256, 16, 1), MOST_SHARED),
+    ("1,024 atoms, 64 sites that share", lambda: largest(1024, 64, 2), MOST_SHARED),
 ]
 
 
 def run_table():
-    print("%-34s %7s %6s %9s %9s %9s %12s" % ("run", "workers", "status", "seconds", "cpu s", "peak MB", "calls/s"))
-    for name, make in CASES:
+    print("%-34s %7s %6s %9s %9s %9s %12s %7s %7s" % ("200,000 calls", "workers", "status", "seconds", "cpu s", "peak MB", "calls/s", "of one", "cpu"))
+    above = False
+    for name, make, most in CASES:
         text = make()
-        for workers in (1, 2, 4, 8):
-            status, seconds, cpu, peak = measure([*PROGRAM, "--workers", str(workers)], text)
-            print("%-34s %7d %6d %9.2f %9.2f %9.1f %12.0f" % (name, workers, status, seconds, cpu, peak, 200_000 / seconds))
+        one, one_cpu = None, None
+        for workers in (1, *WORKERS):
+            status, seconds, cpu, peak = measure([*PROGRAM, "--workers", str(workers)], text, RUNS)
+            one, one_cpu = one or seconds, one_cpu or max(cpu, 0.01)
+            above = above or seconds > most * one or cpu > MOST_CPU * one_cpu
+            row = (name, workers, status, seconds, cpu, peak, 200_000 / seconds, seconds / one, cpu / one_cpu)
+            print("%-34s %7d %6d %9.2f %9.2f %9.1f %12.0f %7.2f %7.2f" % row)
+    return above
 
 
 def before_table(other):
     print("%-34s %9s %9s %9s | %9s %9s %9s | %6s" % ("run by one worker", "seconds", "cpu s", "peak MB", "other s", "cpu s", "peak MB", "ratio"))
     most = 0
-    for name, make in CASES:
+    for name, make, _ in CASES:
         text = make()
         _, seconds, cpu, peak = measure(PROGRAM, text)
         _, before, before_cpu, before_peak = measure([os.path.abspath(other), "run"], text)
@@ -119,13 +132,12 @@ def store_table():
 
 
 def main(words):
-    if words in ([], ["run"]):
-        run_table()
-    elif words[0] == "before" and len(words) == 2:
+    if words[:1] == ["before"] and len(words) == 2:
         return before_table(words[1])
-    elif words != ["store"]:
+    if words not in ([], ["run"], ["store"]):
         sys.exit(__doc__)
-    return store_table() if words in ([], ["store"]) else 0
+    above = run_table() if words != ["store"] else False
+    return (store_table() if words != ["run"] else False) or above
 
 
 if __name__ == "__main__":

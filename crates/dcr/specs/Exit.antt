@@ -2,13 +2,14 @@
 use Rattle.std.specs.Prelude.{◌≡◌, ℕ, [], Option, Result, MatchResult}
 use Rattle.dcr_base.specs.Count.{Rose}
 use Rattle.dcr_base.specs.Disk.{DiskView}
-use Rattle.dcr_base.specs.Side.{Side}
+use Rattle.dcr_base.specs.Door.{Doors}
+use Rattle.dcr_base.specs.Side.{Adds, Side}
 use Rattle.dcr_base.specs.Status.{code_of}
 use Rattle.dcr_base.specs.declared.status.Status.TheVariants.{WriteFault, NoMemory}
 use Rattle.dcr_app.specs.Answers.{Answers, EndsAs, IsConverse, IsHeadline, Says, is_stored}
-use Rattle.dcr_app.specs.Outside.{Adds, CountsWhere, LeavesInput, limit_in}
+use Rattle.dcr_app.specs.Outside.{CountsWhere, LeavesInput, limit_in}
 use Rattle.dcr_app.specs.Stored.{LeavesDisk}
-use Rattle.dcr_app.specs.Telling.{Doors, Leaves}
+use Rattle.dcr_app.specs.Telling.{LeavesDoor}
 use Rattle.dcr_app.specs.declared.app.End.{End}
 use Rattle.dcr_app.specs.declared.command.Command.{Command}
 use Rattle.dcr.specs.declared.Unused.{Unused}
@@ -34,7 +35,7 @@ pub record IsEndOf {D B L R : Type 0} (view : D → DiskView) (faults : D → �
   pub input : LeavesInput (limit_in command) was.input now.input now.has_ended end.status
   pub output : CountsWhere (end.status ≡ WriteFault) was.output.faults now.output.faults
   pub disk : LeavesDisk (is_stored command) view faults was.input.bytes first_disk end.disk end.status end.closed
-  pub door : Leaves doors command end.closed first_door end.door end.ends.items end.status
+  pub door : LeavesDoor doors command end.closed first_door end.door end.ends.items end.status
 
 -- nothing was read and nothing was written, and the door and the disk are those that were handed in
 pub record IsUntouched {D B : Type 0} (door : B) (disk : D) (was now : Outside) (unused : Unused B D) : Type 0 where

@@ -6,10 +6,8 @@ ghost use Rattle.std.specs.Prelude.{◌≡◌, ◌≢◌, [], Err, IsErr, IfErr,
 ghost use Rattle.std.specs.IoError.{error_kind};
 ghost use Rattle.std.specs.Process.{exit_status};
 ghost use Rattle.std.specs.Vec.Iter.{into_iter_items};
-ghost use Rattle.dcr_base.specs.Side.{side};
 ghost use Rattle.dcr_base.specs.Status.{code_of};
 ghost use Rattle.dcr_app.specs.Command.{command_in};
-ghost use Rattle.dcr_app.specs.Telling.{doors_of};
 ghost use Rattle.dcr.specs.Exit.{Exits, IsUntouched, outside};
 
 mod telling;
@@ -106,22 +104,20 @@ fn program<
     disk: D,
     gate: G,
 ) -> Exit<B, D>
-    ensures words { IfOk words (λ args. Exits D.view D.faults (doors_of B.links B.is_shut B.faults B.Link.left B.Link.taken B.Link.Rest.unread B.Link.Rest.sent
-        B.Link.Rest.failed_reads B.Link.Rest.failed_writes)
+    ensures words { IfOk words (λ args. Exits D.view D.faults B.tells
         (command_in (drop 1 (into_iter_items args))) door disk
-        (outside (side (I.left input.old) (I.read_faults input.old)) (I.has_ended input.old) (side (O.taken output.old) (O.write_faults output.old)))
-        (outside (side (I.left input.new) (I.read_faults input.new)) (I.has_ended input.new) (side (O.taken output.new) (O.write_faults output.new)))
+        (outside (I.gives input.old) (I.has_ended input.old) (O.takes output.old))
+        (outside (I.gives input.new) (I.has_ended input.new) (O.takes output.new))
         (exit_status result.code) result.answer) }
-    ensures no_text { IfErr words (λ error. error_kind error ≡ ErrorKind.InvalidData → Exits D.view D.faults (doors_of B.links B.is_shut B.faults B.Link.left B.Link.taken B.Link.Rest.unread B.Link.Rest.sent
-        B.Link.Rest.failed_reads B.Link.Rest.failed_writes)
+    ensures no_text { IfErr words (λ error. error_kind error ≡ ErrorKind.InvalidData → Exits D.view D.faults B.tells
         (command_in []) door disk
-        (outside (side (I.left input.old) (I.read_faults input.old)) (I.has_ended input.old) (side (O.taken output.old) (O.write_faults output.old)))
-        (outside (side (I.left input.new) (I.read_faults input.new)) (I.has_ended input.new) (side (O.taken output.new) (O.write_faults output.new)))
+        (outside (I.gives input.old) (I.has_ended input.old) (O.takes output.old))
+        (outside (I.gives input.new) (I.has_ended input.new) (O.takes output.new))
         (exit_status result.code) result.answer) }
     ensures no_words { IfErr words (λ error. error_kind error ≢ ErrorKind.InvalidData → exit_status result.code ≡ code_of Status.NoMemory) }
     ensures unread { IfErr words (λ error. error_kind error ≢ ErrorKind.InvalidData → IfErr result.answer (IsUntouched door disk
-        (outside (side (I.left input.old) (I.read_faults input.old)) (I.has_ended input.old) (side (O.taken output.old) (O.write_faults output.old)))
-        (outside (side (I.left input.new) (I.read_faults input.new)) (I.has_ended input.new) (side (O.taken output.new) (O.write_faults output.new))))) }
+        (outside (I.gives input.old) (I.has_ended input.old) (O.takes output.old))
+        (outside (I.gives input.new) (I.has_ended input.new) (O.takes output.new)))) }
     ensures uncalled { IfErr words (λ error. error_kind error ≢ ErrorKind.InvalidData → IsErr result.answer) }
 {
     match words {
@@ -154,11 +150,10 @@ fn answer<
     disk: D,
     gate: G,
 ) -> Exit<B, D>
-    ensures { Exits D.view D.faults (doors_of B.links B.is_shut B.faults B.Link.left B.Link.taken B.Link.Rest.unread B.Link.Rest.sent
-        B.Link.Rest.failed_reads B.Link.Rest.failed_writes)
+    ensures { Exits D.view D.faults B.tells
         (command_in words.now) door disk
-        (outside (side (I.left input.old) (I.read_faults input.old)) (I.has_ended input.old) (side (O.taken output.old) (O.write_faults output.old)))
-        (outside (side (I.left input.new) (I.read_faults input.new)) (I.has_ended input.new) (side (O.taken output.new) (O.write_faults output.new)))
+        (outside (I.gives input.old) (I.has_ended input.old) (O.takes output.old))
+        (outside (I.gives input.new) (I.has_ended input.new) (O.takes output.new))
         (exit_status result.code) result.answer }
 {
     let end = dcr(rt, alloc, words, input, output, door, disk, gate);

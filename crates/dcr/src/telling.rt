@@ -2,9 +2,7 @@
 // ends. Nothing is promised of it, and nothing comes of it where standard error can't be written to: the door, its links
 // and their handle hand each call on as it is.
 ghost use Rattle.std.specs.Prelude.{◌≡◌, ◌⊎◌, ◌≤◌, ℕ, List, Option, Some, None, length};
-ghost use Rattle.dcr_base.specs.Side.{side};
 ghost use Rattle.dcr_serve.specs.TcpDoor.{failed_calls};
-ghost use Rattle.dcr_serve.specs.TcpLink.{untold};
 
 use dcr_app::Status;
 use dcr_base::{Door, Failed, Link, Sink, Source};
@@ -81,16 +79,19 @@ impl<'r, R: Net<Listener = TcpListener, Stream = TcpStream> + Eprint> TellingDoo
 }
 
 impl<'r, R: Net<Listener = TcpListener, Stream = TcpStream> + Eprint> Door for TellingDoor<'r, R> {
-    ghost use Rattle.std.specs.Prelude.{None};
+    ghost use Rattle.std.specs.Prelude.{None, refl};
+    ghost use Rattle.dcr_base.specs.Link.{links_of};
     ghost use Rattle.dcr_serve.specs.TcpDoor.{failed_calls};
+    ghost use Rattle.dcr_serve.specs.TcpLink.{tcp_links};
 
     type Link = TellingLink<'r, R>;
 
-    ghost links = { λ _. None };
-
-    ghost is_shut = { λ _. ⊥ };
-
-    ghost faults = { λ door. failed_calls door.door };
+    ghost tells = { record {
+      links = λ _. None;
+      is_shut = λ _. ⊥;
+      faults = λ door. failed_calls door.door;
+      each = links_of (λ link. tcp_links.gives link.link) (λ link. tcp_links.takes link.link) tcp_links.unread tcp_links.sent;
+    } };
 
     fn next(&mut self) -> Result<Option<TellingLink<'r, R>>, Failed> {
         match self.door.next() {
@@ -113,6 +114,8 @@ impl<'r, R: Net<Listener = TcpListener, Stream = TcpStream> + Eprint> Door for T
         }
     }
 
+    ghost each_is = { refl };
+
     ghost shut_has_none = { λ door never. absurd never };
 }
 
@@ -127,16 +130,13 @@ pub(crate) struct TellingLink<'r, R> {
 
 impl<'r, R> Source for TellingLink<'r, R> {
     ghost use Rattle.std.specs.Prelude.{IsTrue};
-    ghost use Rattle.dcr_base.specs.Side.{side};
-    ghost use Rattle.dcr_serve.specs.TcpLink.{untold};
+    ghost use Rattle.dcr_serve.specs.TcpLink.{tcp_links};
 
-    ghost left = { λ _. untold };
+    ghost gives = { λ link. tcp_links.gives link.link };
 
     ghost has_ended = { λ link. IsTrue link.link.has_ended };
 
-    ghost read_faults = { λ link. link.link.faults.failed_reads };
-
-    ghost sink_side = { λ link. side untold link.link.faults.failed_writes };
+    ghost sink_side = { λ link. tcp_links.takes link.link };
 
     fn read(&mut self, buf: &mut [u8]) -> Result<usize, Failed> {
         let has_room = !buf.is_empty();
@@ -149,14 +149,11 @@ impl<'r, R> Source for TellingLink<'r, R> {
 }
 
 impl<'r, R> Sink for TellingLink<'r, R> {
-    ghost use Rattle.dcr_base.specs.Side.{side};
-    ghost use Rattle.dcr_serve.specs.TcpLink.{untold};
+    ghost use Rattle.dcr_serve.specs.TcpLink.{tcp_links};
 
-    ghost taken = { λ _. untold };
+    ghost takes = { λ link. tcp_links.takes link.link };
 
-    ghost write_faults = { λ link. link.link.faults.failed_writes };
-
-    ghost source_side = { λ link. side untold link.link.faults.failed_reads };
+    ghost source_side = { λ link. tcp_links.gives link.link };
 
     fn write(&mut self, bytes: &[u8]) -> Result<usize, Failed> {
         self.link.write(bytes)
@@ -218,9 +215,7 @@ impl<'r, S, R> TellingSink<'r, S, R> {
 }
 
 impl<'r, S: Sink, R: Eprint> Sink for TellingSink<'r, S, R> {
-    ghost taken = { λ sink. S.taken sink.sink };
-
-    ghost write_faults = { λ sink. S.write_faults sink.sink };
+    ghost takes = { λ sink. S.takes sink.sink };
 
     ghost source_side = { λ sink. S.source_side sink.sink };
 

@@ -6,7 +6,7 @@ use Rattle.std.proofs.lemmas.List.{append-nil, length-append, take_all, take-app
 use Rattle.std.proofs.lemmas.List.Elements.{All-cons, All-nil}
 use Rattle.dcr_base.specs.Count.{Rose}
 use Rattle.dcr_base.specs.Disk.{DiskView}
-use Rattle.dcr_base.specs.Side.{Side}
+use Rattle.dcr_base.specs.Side.{Adds, Side, Stopped}
 use Rattle.dcr_base.specs.declared.status.Status.{Status}
 use Rattle.dcr_base.specs.declared.status.Status.TheVariants.{Done, Usage, Refused, ReadFault, WriteFault, NoMemory, DiskFault, Invalid, Full, TapeRefused, DoorFault}
 use Rattle.dcr_graph.specs.Cause.{waits}
@@ -37,7 +37,7 @@ use Rattle.dcr_adapt.specs.declared.stop.StageStop.{StageStop}
 use Rattle.dcr_adapt.specs.declared.stop.StageStop.TheVariants as stage
 use Rattle.dcr_app.specs.Adapted.{AnswersStages, BeginsAsWritten, BeginsAt, EndsStages, GoesOn, IsAnsweredStages, IsRunOfStage, IsToldOf, RanStage, RunsStages, Stage, case_of_stage, ending_of, history_of, report_of, reports_of, stage_line, stages_from}
 use Rattle.dcr_app.specs.Headline.{rules_in}
-use Rattle.dcr_app.specs.Outside.{Adds, IsStarved, Stopped, WereLeft, Wrote}
+use Rattle.dcr_app.specs.Outside.{IsStarved, WereLeft, Wrote}
 use Rattle.dcr_app.specs.Telling.{atoms_in}
 use Rattle.dcr_app.specs.declared.answer.Answer.{Answer}
 use Rattle.dcr_app.specs.declared.command.Command.TheVariants.{Adapt}
@@ -277,10 +277,10 @@ runs_starved s case M rest closed before had took ran legal wrote =
     )
     (omega arith) (λ failed. absurd (let wrong : NoMemory ≡ WriteFault = failed in cc)) (subst (λ (l : List ℕ). Appends had.bytes took.bytes l) (sym full) wrote.0)
 
-told_more : (s : Stage) (rest : List Stage) (closed : Closed) (before : Option Closed) (count : ℕ) (told_run : Option Closed) → IsRunOfStage s closed
-    → IsToldOf rest (Some closed) count told_run → IsToldOf (s ∷ rest) before (suc count) told_run
-told_more s rest closed before zero told_run ran it = (s, closed, refl, it, ran)
-told_more s rest closed before (suc k) told_run ran it = it
+told_more : (s : Stage) (rest : List Stage) (closed : Closed) (before : Option Closed) (count : ℕ) (closed_run : Option Closed) → IsRunOfStage s closed
+    → IsToldOf rest (Some closed) count closed_run → IsToldOf (s ∷ rest) before (suc count) closed_run
+told_more s rest closed before zero closed_run ran it = (s, closed, refl, it, ran)
+told_more s rest closed before (suc k) closed_run ran it = it
 
 far_more : (s : Stage) (rest : List Stage) (count reach : ℕ) → length (reports_of (take (count - 1) rest)) ≤ reach → length (reports_of (take count (s ∷ rest))) ≤ length (report_of s) + reach
 far_more s rest zero reach far = omega arith
@@ -290,15 +290,15 @@ far_more s rest (suc k) reach far =
     let fits : length (reports_of (take k rest)) ≤ reach = subst (λ n. length (reports_of (take n rest)) ≤ reach) here far in omega arith
 
 -- one, and then so many of those behind it
-pub runs_more : (s : Stage) (rest : List Stage) (closed : Closed) (before : Option Closed) (had mid took : Side) (status : Status) (told_run : Option Closed) → IsRunOfStage s closed
-    → IsReport (report_of s) (length (history_of s)) → Adds (report_of s) had mid → RunsStages rest (Some closed) mid took status told_run → RunsStages (s ∷ rest) before had took status told_run
-runs_more s rest closed before had mid took status told_run ran legal wrote more =
+pub runs_more : (s : Stage) (rest : List Stage) (closed : Closed) (before : Option Closed) (had mid took : Side) (status : Status) (closed_run : Option Closed) → IsRunOfStage s closed
+    → IsReport (report_of s) (length (history_of s)) → Adds (report_of s) had mid → RunsStages rest (Some closed) mid took status closed_run → RunsStages (s ∷ rest) before had took status closed_run
+runs_more s rest closed before had mid took status closed_run ran legal wrote more =
     let x = report_of s in let y = reports_of (take more.count rest) in
     let here : suc more.count - 1 ≡ more.count = omega arith in record {
       count = suc more.count;
       within = let within = more.within in omega arith;
       all = λ done. let all = more.all done in omega (arith, all);
-      told = told_more s rest closed before more.count told_run ran more.told;
+      told = told_more s rest closed before more.count closed_run ran more.told;
       wrote = wrote_behind x (reports_of rest) status had mid took wrote more.wrote;
       reach = length x + more.reach;
       far = subst (λ n. length (reports_of (take n (s ∷ rest))) ≤ length x + more.reach) (sym here) (far_more s rest more.count more.reach more.far);
@@ -360,20 +360,20 @@ module _ (case : Case) (M : Marking) (closed : Closed) (is : IsCase case) (ran :
       ∙ ap (λ (O : Marking). carried (atoms_in (case_of case)) O (atoms_in (case_of next)) next.opening) end))
 
   -- those behind it were run
-  pub goes_on_here : (rest : List Spelled) (next : Case) (more : List Spelled) (N : Marking) (had mid took : Side) (status : Status) (told_run : Option Closed) → rest ≡ case_of next ∷ more
+  pub goes_on_here : (rest : List Spelled) (next : Case) (more : List Spelled) (N : Marking) (had mid took : Side) (status : Status) (closed_run : Option Closed) → rest ≡ case_of next ∷ more
       → N ≡ carried (atoms_in (case_of case)) (ending_of here) (atoms_in (case_of next)) next.opening
       → Wrote Done (report_text case.nested case.cover closed.opening closed.history.entries) Done had mid
-      → RunsStages (stages_from (case_of next) N more) (Some closed) mid took status told_run → RunsStages (stages_from (case_of case) M rest) before had took status told_run
-  goes_on_here rest next more N had mid took status told_run same begins wrote runs =
+      → RunsStages (stages_from (case_of next) N more) (Some closed) mid took status closed_run → RunsStages (stages_from (case_of case) M rest) before had took status closed_run
+  goes_on_here rest next more N had mid took status closed_run same begins wrote runs =
       let O = carried (atoms_in (case_of case)) (ending_of here) (atoms_in (case_of next)) next.opening in
-      subst (λ (l : List Spelled). RunsStages (stages_from (case_of case) M l) before had took status told_run) (sym same)
-      (runs_more here (stages_from (case_of next) O more) closed before had mid took status told_run ran_here legal_here (due_here had mid Done wrote).1
-      (subst (λ (P : Marking). RunsStages (stages_from (case_of next) P more) (Some closed) mid took status told_run) begins runs))
+      subst (λ (l : List Spelled). RunsStages (stages_from (case_of case) M l) before had took status closed_run) (sym same)
+      (runs_more here (stages_from (case_of next) O more) closed before had mid took status closed_run ran_here legal_here (due_here had mid Done wrote).1
+      (subst (λ (P : Marking). RunsStages (stages_from (case_of next) P more) (Some closed) mid took status closed_run) begins runs))
 
 -- what an answer ends with
-pub ends_as_told : (stages : List Stage) (before : Option Closed) (had took : Side) (status : Status) (told_run : Option Closed) (end : Answer)
-    → end ≡ record { status = status; closed = told_run } → RunsStages stages before had took status told_run → RunsStages stages before had took end.status end.closed
-ends_as_told stages before had took status told_run end same runs =
+pub ends_as_told : (stages : List Stage) (before : Option Closed) (had took : Side) (status : Status) (closed_run : Option Closed) (end : Answer)
+    → end ≡ record { status = status; closed = closed_run } → RunsStages stages before had took status closed_run → RunsStages stages before had took end.status end.closed
+ends_as_told stages before had took status closed_run end same runs =
     subst (λ (e : Answer). RunsStages stages before had took e.status e.closed) (sym same) runs
 
 -- ---- answers
@@ -389,9 +389,9 @@ stopped_stages bytes why had took status end is refuses told = subst (λ (e : An
     stopped (inr it) = inl (refl, inr (record { why = why; refuses = refuses it.0; named = it.0; line = it.1 }))
 
 -- they are, and were run
-pub told_stages : (bytes : List ℕ) (case : Spelled) (rest : List Spelled) (had took : Side) (status : Status) (told_run : Option Closed)
-    → stages_in bytes ≡ Ok (case ∷ rest) → RunsStages (stages_from case case.opening rest) None had took status told_run → AnswersStages bytes had took status told_run
-told_stages bytes case rest had took status told_run spelled runs = inr (record {
+pub told_stages : (bytes : List ℕ) (case : Spelled) (rest : List Spelled) (had took : Side) (status : Status) (closed_run : Option Closed)
+    → stages_in bytes ≡ Ok (case ∷ rest) → RunsStages (stages_from case case.opening rest) None had took status closed_run → AnswersStages bytes had took status closed_run
+told_stages bytes case rest had took status closed_run spelled runs = inr (record {
   stages = stages_from case case.opening rest;
   spelled = spelled ∙ ap Ok (sym (cases_from case case.opening rest));
   first = begins_as_written case rest;
@@ -401,28 +401,28 @@ told_stages bytes case rest had took status told_run spelled runs = inr (record 
 
 -- ---- how it ended
 
-pub stages_ended : (bytes : List ℕ) (had took : Side) (status : Status) (told_run : Option Closed) → AnswersStages bytes had took status told_run → HasEnded status had took
-stages_ended bytes had took status told_run (inl (none, inl starved)) = ended_silent (inl starved.0) starved.1
-stages_ended bytes had took status told_run (inl (none, inr it)) = ended_with Refused (stage_line it.why) tt it.line
-stages_ended bytes had took status told_run (inr it) = ended_with Done (reports_of it.stages) tt it.runs.wrote
+pub stages_ended : (bytes : List ℕ) (had took : Side) (status : Status) (closed_run : Option Closed) → AnswersStages bytes had took status closed_run → HasEnded status had took
+stages_ended bytes had took status closed_run (inl (none, inl starved)) = ended_silent (inl starved.0) starved.1
+stages_ended bytes had took status closed_run (inl (none, inr it)) = ended_with Refused (stage_line it.why) tt it.line
+stages_ended bytes had took status closed_run (inr it) = ended_with Done (reports_of it.stages) tt it.runs.wrote
 
 -- what the status says
-pub stages_say : (before after : DiskView) (left : Option (List ℕ)) (bytes : List ℕ) (had took : Side) (status : Status) (told_run : Option Closed) → WereLeft left bytes
-    → AnswersStages bytes had took status told_run → SaysAt (Some Adapt) before after left had took told_run status
-stages_say before after left bytes had took status told_run read (inl (none, inl starved)) = by_starved (SaysAt (Some Adapt) before after left had took told_run) tt status had took starved
-stages_say before after left bytes had took status told_run read (inl (none, inr it)) =
-    by_wrote (SaysAt (Some Adapt) before after left had took told_run) tt tt Refused (stage_line it.why) status had took it.line
+pub stages_say : (before after : DiskView) (left : Option (List ℕ)) (bytes : List ℕ) (had took : Side) (status : Status) (closed_run : Option Closed) → WereLeft left bytes
+    → AnswersStages bytes had took status closed_run → SaysAt (Some Adapt) before after left had took closed_run status
+stages_say before after left bytes had took status closed_run read (inl (none, inl starved)) = by_starved (SaysAt (Some Adapt) before after left had took closed_run) tt status had took starved
+stages_say before after left bytes had took status closed_run read (inl (none, inr it)) =
+    by_wrote (SaysAt (Some Adapt) before after left had took closed_run) tt tt Refused (stage_line it.why) status had took it.line
     (λ adds. (Adapt, refl, inr (bytes, read, (it.why, it.refuses, it.named, adds.0))))
-stages_say before after left bytes had took status told_run read (inr it) = elim (seen Done (reports_of it.stages) status had took it.runs.wrote) [
-  | inl e ↦ subst (SaysAt (Some Adapt) before after left had took told_run) (sym e.0) (record {
+stages_say before after left bytes had took status closed_run read (inr it) = elim (seen Done (reports_of it.stages) status had took it.runs.wrote) [
+  | inl e ↦ subst (SaysAt (Some Adapt) before after left had took closed_run) (sym e.0) (record {
     stages = it.stages;
     wrote = e.1.0;
     legal = subst (λ (l : List Stage). All (λ (s : Stage). IsReport (report_of s) (length (history_of s))) l)
         (take_all it.runs.count it.stages (let all = it.runs.all e.0 in omega arith)) it.runs.legal;
   })
   | inr other ↦ elim other [
-    | inl e ↦ subst (SaysAt (Some Adapt) before after left had took told_run) (sym e.0) tt
-    | inr e ↦ subst (SaysAt (Some Adapt) before after left had took told_run) (sym e.0) tt
+    | inl e ↦ subst (SaysAt (Some Adapt) before after left had took closed_run) (sym e.0) tt
+    | inr e ↦ subst (SaysAt (Some Adapt) before after left had took closed_run) (sym e.0) tt
   ]
 ]
 
@@ -431,11 +431,11 @@ pub starved_stages : (r : Result (List Spelled) StageStop) (status : Status) →
 starved_stages (Err why) status e = inr e
 starved_stages (Ok cases) status e = inr e
 
-pub stages_end : (bytes : List ℕ) (had took : Side) (status : Status) (told_run : Option Closed) → length bytes ≤ 16777216 → (status ≡ WriteFault → ⊥)
-    → AnswersStages bytes had took status told_run → IsAnsweredStages bytes status
-stages_end bytes had took status told_run few writes it = record { long = λ more. absurd (omega (arith, more, few)); short = λ _. short it }
+pub stages_end : (bytes : List ℕ) (had took : Side) (status : Status) (closed_run : Option Closed) → length bytes ≤ 16777216 → (status ≡ WriteFault → ⊥)
+    → AnswersStages bytes had took status closed_run → IsAnsweredStages bytes status
+stages_end bytes had took status closed_run few writes it = record { long = λ more. absurd (omega (arith, more, few)); short = λ _. short it }
   where
-    short : AnswersStages bytes had took status told_run → EndsStages (stages_in bytes) status
+    short : AnswersStages bytes had took status closed_run → EndsStages (stages_in bytes) status
     short (inl (none, inl starved)) = starved_stages (stages_in bytes) status starved.0
     short (inl (none, inr stop)) =
         subst (λ (r : Result (List Spelled) StageStop). EndsStages r status) (sym stop.refuses) (due_or Refused (stage_line stop.why) status had took writes stop.line)

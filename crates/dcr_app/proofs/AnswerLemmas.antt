@@ -27,7 +27,8 @@ use Rattle.dcr_app.specs.Logged.{case_before_log, rows_in}
 use Rattle.dcr_app.specs.Outside.{CountsWhere, FromInput, IsUnread, LeavesInput, WereLeft, input_long, input_unread, input_whole, limit_in, most_bytes}
 use Rattle.dcr_app.specs.Refusal.{case_line}
 use Rattle.dcr_app.specs.Stored.{LeavesDisk}
-use Rattle.dcr_app.specs.Telling.{Doors, Leaves, Telling, by_workers, over_links}
+use Rattle.dcr_app.specs.Telling.{LeavesDoor, Telling, by_workers, over_links}
+use Rattle.dcr_base.specs.Door.{Doors}
 use Rattle.dcr_app.specs.declared.app.End.{End}
 use Rattle.dcr_app.specs.declared.command.Command.{Command}
 use Rattle.dcr_app.specs.declared.command.Command.TheVariants.{Run, Serve, Replay, Load, Nodes, Conform, Adapt}
@@ -79,7 +80,7 @@ unread_counted read.NoMemory status had took old new it counts =
 -- ---- the door
 
 -- it was not asked
-pub not_asked : {B L R : Type 0} (doors : Doors B L R) (command : Option Command) (door : B) (ends : List (LinkEnd L R)) (status : Status) → ends ≡ [] → Leaves doors command None door door ends status
+pub not_asked : {B L R : Type 0} (doors : Doors B L R) (command : Option Command) (door : B) (ends : List (LinkEnd L R)) (status : Status) → ends ≡ [] → LeavesDoor doors command None door door ends status
 not_asked doors None door ends status none = (refl, none)
 not_asked doors (Some (Run workers store)) door ends status none = (refl, none)
 not_asked doors (Some (Serve sessions workers store)) door ends status none = (refl, none)
@@ -104,22 +105,22 @@ pub read_failed_by : (limit : Option ℕ) (left rest : Side) (has_ended : Type 0
 read_failed_by None left rest has_ended status it is = absurd (it.1 is)
 read_failed_by (Some limit) left rest has_ended status it is = it.2.1 is
 
-pub disk_failed_by : {D : Type 0} (view : D → DiskView) (faults : D → ℕ) (store : Bool) (left : Option (List ℕ)) (before after : D) (status : Status) (told_run : Option Closed)
-    → LeavesDisk store view faults left before after status told_run → store ≡ true → status ≡ DiskFault → Rose (faults before) (faults after)
-disk_failed_by view faults true left before after status told_run it on is = it.counted is
-disk_failed_by view faults false left before after status told_run it on is = absurd cc
+pub disk_failed_by : {D : Type 0} (view : D → DiskView) (faults : D → ℕ) (store : Bool) (left : Option (List ℕ)) (before after : D) (status : Status) (closed_run : Option Closed)
+    → LeavesDisk store view faults left before after status closed_run → store ≡ true → status ≡ DiskFault → Rose (faults before) (faults after)
+disk_failed_by view faults true left before after status closed_run it on is = it.counted is
+disk_failed_by view faults false left before after status closed_run it on is = absurd cc
 
-pub door_failed_by : {B L R : Type 0} (doors : Doors B L R) (command : Option Command) (told_run : Option Closed) (before after : B) (ends : List (LinkEnd L R)) (status : Status)
-    → Leaves doors command told_run before after ends status → IsServing command → told_run ≢ None → status ≡ DoorFault → Rose (doors.faults before) (doors.faults after)
+pub door_failed_by : {B L R : Type 0} (doors : Doors B L R) (command : Option Command) (closed_run : Option Closed) (before after : B) (ends : List (LinkEnd L R)) (status : Status)
+    → LeavesDoor doors command closed_run before after ends status → IsServing command → closed_run ≢ None → status ≡ DoorFault → Rose (doors.faults before) (doors.faults after)
 door_failed_by doors (Some (Serve sessions workers store)) (Some closed) before after ends status it serves some is = it.failed is
 door_failed_by doors (Some (Serve sessions workers store)) None before after ends status it serves some is = absurd (some refl)
-door_failed_by doors None told_run before after ends status it serves some is = elim serves [ ]
-door_failed_by doors (Some (Run workers store)) told_run before after ends status it serves some is = elim serves [ ]
-door_failed_by doors (Some Replay) told_run before after ends status it serves some is = elim serves [ ]
-door_failed_by doors (Some (Load number)) told_run before after ends status it serves some is = elim serves [ ]
-door_failed_by doors (Some (Nodes number)) told_run before after ends status it serves some is = elim serves [ ]
-door_failed_by doors (Some Conform) told_run before after ends status it serves some is = elim serves [ ]
-door_failed_by doors (Some Adapt) told_run before after ends status it serves some is = elim serves [ ]
+door_failed_by doors None closed_run before after ends status it serves some is = elim serves [ ]
+door_failed_by doors (Some (Run workers store)) closed_run before after ends status it serves some is = elim serves [ ]
+door_failed_by doors (Some Replay) closed_run before after ends status it serves some is = elim serves [ ]
+door_failed_by doors (Some (Load number)) closed_run before after ends status it serves some is = elim serves [ ]
+door_failed_by doors (Some (Nodes number)) closed_run before after ends status it serves some is = elim serves [ ]
+door_failed_by doors (Some Conform) closed_run before after ends status it serves some is = elim serves [ ]
+door_failed_by doors (Some Adapt) closed_run before after ends status it serves some is = elim serves [ ]
 
 -- ---- where nothing fails
 
@@ -211,7 +212,7 @@ module _ {D B L R : Type 0} (view : D → DiskView) (faults : D → ℕ) (doors 
 
     -- ---- the headline
 
-    none_told : (P : Closed → Type 0) (told_run : Option Closed) → told_run ≡ None → IfSome told_run P
+    none_told : (P : Closed → Type 0) (closed_run : Option Closed) → closed_run ≡ None → IfSome closed_run P
     none_told P None none = tt
     none_told P (Some closed) none = absurd cc
 
@@ -222,8 +223,8 @@ module _ {D B L R : Type 0} (view : D → DiskView) (faults : D → ℕ) (doors 
     headline_case limit telling store (input_long untold more line) = none_told _ end.closed untold.0
     headline_case limit telling store (input_whole bytes read few ended it) = of_run end.closed it.1
       where
-        of_run : (told_run : Option Closed) → AnswersCase view faults telling store before end.disk bytes had took end.status told_run
-            → IfSome told_run (λ closed. TellsRun view faults telling store before end.disk left has_ended had took end.status closed)
+        of_run : (closed_run : Option Closed) → AnswersCase view faults telling store before end.disk bytes had took end.status closed_run
+            → IfSome closed_run (λ closed. TellsRun view faults telling store before end.disk left has_ended had took end.status closed)
         of_run None it = tt
         of_run (Some closed) it = tells_left view faults telling store before end.disk left has_ended bytes had took end.status closed read ended it
 
@@ -341,13 +342,13 @@ module _ {D B L R : Type 0} (view : D → DiskView) (faults : D → ℕ) (doors 
     -- ---- the other way round
 
     module _ (law : AcceptedAreTheFormats) (ordered : OrderedIsTold) where
-      none_by_one : (workers : ℕ) (rest : Option (List ℕ)) (told_run : Option Closed) → told_run ≡ None → IsToldByOne workers rest told_run
-      none_by_one workers None told_run none = tt
+      none_by_one : (workers : ℕ) (rest : Option (List ℕ)) (closed_run : Option Closed) → closed_run ≡ None → IsToldByOne workers rest closed_run
+      none_by_one workers None closed_run none = tt
       none_by_one workers (Some bytes) None none = λ case is. tt
       none_by_one workers (Some bytes) (Some closed) none = absurd cc
 
-      none_throughout : (rest : Option (List ℕ)) (told_run : Option Closed) → told_run ≡ None → IsDoneThroughout rest told_run
-      none_throughout None told_run none = tt
+      none_throughout : (rest : Option (List ℕ)) (closed_run : Option Closed) → closed_run ≡ None → IsDoneThroughout rest closed_run
+      none_throughout None closed_run none = tt
       none_throughout (Some bytes) None none = λ case events executions is one spell. tt
       none_throughout (Some bytes) (Some closed) none = absurd cc
 

@@ -102,7 +102,7 @@ told_apart bytes had took status closed world end is it = subst (λ (e : Answer)
 
 -- ---- how it ended
 
-pub apart_ended : (bytes : List ℕ) (had took : Side) (status : Status) (told_run : Option Closed) (world : Option WorldState) → AnswersApart bytes had took status told_run world → HasEnded status had took
+pub apart_ended : (bytes : List ℕ) (had took : Side) (status : Status) (closed_run : Option Closed) (world : Option WorldState) → AnswersApart bytes had took status closed_run world → HasEnded status had took
 apart_ended bytes had took status None None (inl starved) = ended_silent (inl starved.0) starved.1
 apart_ended bytes had took status None None (inr it) = ended_with Refused (refusal_line it.why) tt it.line
 apart_ended bytes had took status (Some closed) (Some world) it = ended_with Done (report_text it.case.nested it.case.cover closed.opening closed.history.entries) tt it.report
@@ -110,8 +110,8 @@ apart_ended bytes had took status None (Some world) it = elim it [ ]
 apart_ended bytes had took status (Some closed) None it = elim it [ ]
 
 -- what the status says
-pub apart_says : (number : ℕ) (before after : DiskView) (left : Option (List ℕ)) (bytes : List ℕ) (had took : Side) (status : Status) (told_run : Option Closed) (world : Option WorldState)
-    → WereLeft left bytes → AnswersApart bytes had took status told_run world → SaysAt (Some (Nodes number)) before after left had took told_run status
+pub apart_says : (number : ℕ) (before after : DiskView) (left : Option (List ℕ)) (bytes : List ℕ) (had took : Side) (status : Status) (closed_run : Option Closed) (world : Option WorldState)
+    → WereLeft left bytes → AnswersApart bytes had took status closed_run world → SaysAt (Some (Nodes number)) before after left had took closed_run status
 apart_says number before after left bytes had took status None None read (inl starved) = by_starved (SaysAt (Some (Nodes number)) before after left had took None) tt status had took starved
 apart_says number before after left bytes had took status None None read (inr it) =
     by_wrote (SaysAt (Some (Nodes number)) before after left had took None) tt tt Refused (refusal_line it.why) status had took it.line
@@ -123,8 +123,8 @@ apart_says number before after left bytes had took status None (Some world) read
 apart_says number before after left bytes had took status (Some closed) None read it = elim it [ ]
 
 -- what an input and an output that don't fail end with
-pub apart_ends : CasesAreAccepted → (disk : DiskView) (bytes : List ℕ) (had took : Side) (status : Status) (told_run : Option Closed) (world : Option WorldState)
-    → (status ≡ WriteFault → ⊥) → AnswersApart bytes had took status told_run world → IsAnsweredCase EndsRun false disk (case_accepted bytes) status
+pub apart_ends : CasesAreAccepted → (disk : DiskView) (bytes : List ℕ) (had took : Side) (status : Status) (closed_run : Option Closed) (world : Option WorldState)
+    → (status ≡ WriteFault → ⊥) → AnswersApart bytes had took status closed_run world → IsAnsweredCase EndsRun false disk (case_accepted bytes) status
 apart_ends law disk bytes had took status None None writes (inl starved) = starves (case_accepted bytes)
   where
     starves : (r : Result Spelled AcceptStop) → IsAnsweredCase EndsRun false disk r status

@@ -4,7 +4,7 @@ use Rattle.std.specs.Prelude.{⊤}
 use Rattle.std.specs.Io.KnownBytes.{Appends}
 use Rattle.std.proofs.lemmas.Option.{slice_get_within}
 use Rattle.dcr_base.specs.Disk.{DiskView}
-use Rattle.dcr_base.specs.Side.{Side}
+use Rattle.dcr_base.specs.Side.{Adds, Side}
 use Rattle.dcr_base.specs.declared.status.Status.{Status}
 use Rattle.dcr_base.specs.declared.status.Status.TheVariants.{Done, Refused, WriteFault, DiskFault, Full, TapeRefused, DoorFault}
 use Rattle.dcr_journal.specs.Run.{HasNoFault}
@@ -24,7 +24,7 @@ use Rattle.dcr_roles.specs.Laws.{AcceptedAreTheFormats}
 use Rattle.dcr_roles.specs.declared.accepted.AcceptStop.{AcceptStop}
 use Rattle.dcr_app.specs.Answers.{AnswersCase, IsAnsweredCase, IsOr, IsRefused, IsServing, IsTapeRefused, RefusesBytes, TellsNone, TellsRun, WroteReport, has_failed, is_refused, is_starved, is_stored, is_tape_refused}
 use Rattle.dcr_app.specs.Headline.{BeginsWith, cluster_in, digest_of}
-use Rattle.dcr_app.specs.Outside.{Adds, IsStarved, WereLeft}
+use Rattle.dcr_app.specs.Outside.{IsStarved, WereLeft}
 use Rattle.dcr_app.specs.Refusal.{refusal_line}
 use Rattle.dcr_app.specs.Stored.{RefusesTape, by_bytes, by_execution, tape_line}
 use Rattle.dcr_app.specs.Telling.{IsDueBy, Telling, all_done, disk_failed, door_failed, is_full}
@@ -68,7 +68,7 @@ module _ {D : Type 0} (view : D → DiskView) (faults : D → ℕ) (telling : Te
   refused_none (inl starved) = is_starved starved
   refused_none (inr it) = is_refused it
 
-  pub case_ended : (told_run : Option Closed) → AnswersCase view faults telling store before after bytes had took status told_run → HasEnded status had took
+  pub case_ended : (closed_run : Option Closed) → AnswersCase view faults telling store before after bytes had took status closed_run → HasEnded status had took
   case_ended (Some closed) it =
       let report = it.headline.report in
       ended_with report.0 (report_text it.case.nested it.case.cover closed.opening closed.history.entries) (report_is_due report.0 (of_report report.0 report.1)) report.2
@@ -81,8 +81,8 @@ module _ {D : Type 0} (view : D → DiskView) (faults : D → ℕ) (telling : Te
   module _ (reading : Command) (left : Option (List ℕ)) (read : WereLeft left bytes) (stored : is_stored (Some reading) ≡ store)
       (refuses : (why : AcceptStop) × (case_accepted bytes ≡ Err why) × HadMemory why × Appends had.bytes took.bytes (refusal_line why) → RefusesBytes reading bytes had.bytes took.bytes)
       (full : (J : List Entry) → telling.full J → IsServing (Some reading) × (length J ≡ most_served)) (failed : telling.door_failed → IsServing (Some reading)) where
-    pub case_says : (told_run : Option Closed) → (WroteReport had.bytes took.bytes told_run → DoneSays (Some reading) left had took told_run)
-        → AnswersCase view faults telling store before after bytes had took status told_run → SaysAt (Some reading) (view before) (view after) left had took told_run status
+    pub case_says : (closed_run : Option Closed) → (WroteReport had.bytes took.bytes closed_run → DoneSays (Some reading) left had took closed_run)
+        → AnswersCase view faults telling store before after bytes had took status closed_run → SaysAt (Some reading) (view before) (view after) left had took closed_run status
     case_says (Some closed) done it =
         let P : Status → Type 0 = SaysAt (Some reading) (view before) (view after) left had took (Some closed) in
         let text = report_text it.case.nested it.case.cover closed.opening closed.history.entries in
@@ -190,7 +190,7 @@ module _ {D : Type 0} (view : D → DiskView) (faults : D → ℕ) (telling : Te
     told_none (Err why) is (is_tape_refused on it) = absurd (let wrong = sym is ∙ it.spelled in cc)
     told_none (Ok case) is (is_tape_refused on it) = subst (λ s. IsAnsweredCase IsDone s (view before) (Ok case) status) (sym on) (tape_refused case is it)
 
-    pub case_ends : (told_run : Option Closed) → AnswersCase view faults telling store before after bytes had took status told_run
+    pub case_ends : (closed_run : Option Closed) → AnswersCase view faults telling store before after bytes had took status closed_run
         → IsAnsweredCase IsDone store (view before) (case_accepted bytes) status
     case_ends (Some closed) it =
         let is = read_as view faults telling store before after law bytes ⊤ had took status closed it in

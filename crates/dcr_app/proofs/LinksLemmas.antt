@@ -1,13 +1,14 @@
 -- What is told of sessions that were served over the links of a door.
-use Rattle.std.proofs.Common.{◌≡◌, ◌≢◌, ◌⊎◌, ℕ, ◌<◌, arith, Bool, true, false, IsTrue, List, [], ◌∷◌, ◌++◌, length, get_or, Option, Some, inl, inr, refl, sym, ◌∙◌}
+use Rattle.std.proofs.Common.{◌≡◌, ◌≢◌, ◌⊎◌, ℕ, ◌<◌, ◌≤◌, arith, Bool, true, false, IsTrue, List, [], ◌∷◌, ◌++◌, length, get_or, Option, Some, inl, inr, refl, sym, ◌∙◌}
 use Rattle.std.specs.Prelude.{slice_get}
 use Rattle.std.specs.List.{All}
+use Rattle.std.proofs.lemmas.Bool.{false≢true}
 use Rattle.std.proofs.lemmas.List.{length-append}
 use Rattle.std.proofs.lemmas.Option.{slice_get-get_or}
 use Rattle.dcr_base.specs.Count.{Rose}
 use Rattle.dcr_base.specs.declared.status.Status.{Status}
 use Rattle.dcr_base.specs.declared.status.Status.TheVariants.{Done, NoMemory, DoorFault}
-use Rattle.dcr_base.specs.Side.{Side}
+use Rattle.dcr_base.specs.Side.{Side, Stopped as StoppedText}
 use Rattle.dcr_graph.specs.declared.marking.Marking.{Marking}
 use Rattle.dcr_nest.specs.Nest.{Nest}
 use Rattle.dcr_proj.specs.CoverValue.{Owners}
@@ -21,12 +22,13 @@ use Rattle.dcr_cluster.specs.declared.halt.Halt.TheVariants.{Full, Stopped}
 use Rattle.dcr_link.specs.Replies.{Terms}
 use Rattle.dcr_link.specs.declared.end.WorkCause.{WorkCause}
 use Rattle.dcr_link.specs.declared.end.WorkCause.TheVariants as cause
-use Rattle.dcr_serving.specs.Serving.{DoorEnds}
+use Rattle.dcr_serving.specs.Serving.{CountsDoor, DoorEnds}
 use Rattle.dcr_serving.specs.declared.end.LinkEnd.{LinkEnd}
 use Rattle.dcr_engine.specs.Served.{ServedIn, most_served}
 use Rattle.dcr_report.specs.Report.{report_text, version_text}
-use Rattle.dcr_app.specs.Outside.{Stopped as StoppedText, Wrote}
-use Rattle.dcr_app.specs.Telling.{Doors, IsDueBy, IsOfLink, LeavesDoor, all_done, disk_failed, door_failed, is_full}
+use Rattle.dcr_app.specs.Outside.{Wrote}
+use Rattle.dcr_app.specs.Telling.{IsDueBy, IsOfLink, LeavesServed, all_done, disk_failed, door_failed, is_full}
+use Rattle.dcr_base.specs.Door.{Doors}
 use Rattle.dcr_app.proofs.OutsideLemmas.{appends_nothing, wrote_at}
 use Rattle.dcr_app.proofs.RunLemmas.{entry_at, no_fault_done}
 
@@ -62,8 +64,21 @@ pub is_false : (b : Bool) → (IsTrue b → ⊥) → b ≡ false
 is_false true never = absurd (never refl)
 is_false false never = refl
 
+-- what is told of a door
+door_fine : (told : Bool) (old new : ℕ) → CountsDoor told old new → told ≡ false → new ≡ old
+door_fine true old new fails fine = absurd (false≢true (sym fine))
+door_fine false old new same fine = same
+
+pub door_rose : (told : Bool) (old new : ℕ) → CountsDoor told old new → IsTrue told → Rose old new
+door_rose true old new fails is = fails.1
+door_rose false old new same is = absurd (false≢true is)
+
+door_counts : (told : Bool) (old new : ℕ) → CountsDoor told old new → old ≤ new
+door_counts true old new fails = fails.0
+door_counts false old new same = omega (arith, same)
+
 module _ {D B L R : Type 0} (doors : Doors B L R) (first : Store D) (terms : Terms) (before after : B) (sessions : ℕ) (ends : List (LinkEnd L R)) (J : List Entry)
-    (served : ServedIn doors.tells first terms (doors.links before) sessions ends J) where
+    (served : ServedIn doors.each first terms (doors.links before) sessions ends J) where
   of_link : (k : ℕ) (end : LinkEnd L R) → slice_get ends k ≡ Some end → HasNoFault J → (length J ≡ most_served → ⊥) → end.end.cause ≢ cause.NoMemory → (why : WorkCause) → end.end.cause ≡ why
       → IsOfLink why
   of_link k end there none room had cause.Ended is = tt
@@ -74,16 +89,16 @@ module _ {D B L R : Type 0} (doors : Doors B L R) (first : Store D) (terms : Ter
   of_link k end there none room had cause.NoMemory is = had is
 
   pub leaves_door : (door_fell no_memory : Bool) (due : Status) (text : List ℕ) (status : Status) (had took : Side)
-      → DoorEnds doors.links doors.is_shut doors.faults before after sessions ends door_fell no_memory → (IsTrue no_memory → status ≡ NoMemory) → (status ≡ Done → door_fell ≡ false)
+      → DoorEnds doors before after sessions ends door_fell no_memory → (IsTrue no_memory → status ≡ NoMemory) → (status ≡ Done → door_fell ≡ false)
       → IsDueBy (HasNoFault J) (length J ≡ most_served) (Rose (doors.faults before) (doors.faults after)) due → Wrote due text status had took
-      → LeavesDoor doors before after sessions ends status
+      → LeavesServed doors before after sessions ends status
   leaves_door door_fell no_memory due text status had took door wanted unfailed due_is wrote = record {
     left = door.left;
     all = all;
     by_links = λ done. by_each done;
-    unfailed = λ done. door.unfailed (unfailed done);
+    unfailed = λ done. door_fine door_fell (doors.faults before) (doors.faults after) door.counts (unfailed done);
     failed = λ is. failed_due due due_is (sym (wrote_at due text status DoorFault had took is tt wrote).0);
-    never_falls = door.never_falls;
+    never_falls = door_counts door_fell (doors.faults before) (doors.faults after) door.counts;
   }
     where
       remembered : status ≢ NoMemory → no_memory ≡ false
@@ -91,7 +106,7 @@ module _ {D B L R : Type 0} (doors : Doors B L R) (first : Store D) (terms : Ter
 
       all : (status ≡ Done) ⊎ ((status ≢ NoMemory) × (Rose (doors.faults before) (doors.faults after) → ⊥)) → (length ends ≡ sessions) ⊎ doors.is_shut after
       all (inl done) = door.all (unfailed done) (remembered (λ e. absurd (let wrong = sym done ∙ e in cc)))
-      all (inr other) = door.all (is_false door_fell (λ e. other.1 (door.failed e))) (remembered other.0)
+      all (inr other) = door.all (is_false door_fell (λ e. other.1 (door_rose door_fell (doors.faults before) (doors.faults after) door.counts e))) (remembered other.0)
 
       by_each : status ≡ Done → All (λ (end : LinkEnd L R). IsOfLink end.end.cause) ends
       by_each done i d within =

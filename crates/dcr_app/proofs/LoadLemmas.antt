@@ -112,18 +112,18 @@ load_starved number had end is = subst (λ (e : Answer). AnswersLoad number had 
 
 -- ---- how it ended
 
-pub load_ended : (number : ℕ) (had took : Side) (status : Status) (told_run : Option Closed) → AnswersLoad number had took status told_run → HasEnded status had took
+pub load_ended : (number : ℕ) (had took : Side) (status : Status) (closed_run : Option Closed) → AnswersLoad number had took status closed_run → HasEnded status had took
 load_ended number had took status None it = ended_silent (inl it.0) it.1
 load_ended number had took status (Some closed) it = ended_with Done (load_line number (atoms_in (load number)) closed.history.entries closed.waits) tt it.wrote
 
 -- what the status says
-pub load_says : (number : ℕ) (before after : DiskView) (left : Option (List ℕ)) (had took : Side) (status : Status) (told_run : Option Closed) → AnswersLoad number had took status told_run
-    → SaysAt (Some (Load number)) before after left had took told_run status
+pub load_says : (number : ℕ) (before after : DiskView) (left : Option (List ℕ)) (had took : Side) (status : Status) (closed_run : Option Closed) → AnswersLoad number had took status closed_run
+    → SaysAt (Some (Load number)) before after left had took closed_run status
 load_says number before after left had took status None it = by_starved (SaysAt (Some (Load number)) before after left had took None) tt status had took it
 load_says number before after left had took status (Some closed) it =
     by_wrote (SaysAt (Some (Load number)) before after left had took (Some closed)) tt tt Done (load_line number (atoms_in (load number)) closed.history.entries closed.waits) status had took it.wrote (λ adds. tt)
 
 -- what an output that doesn't fail ends with
-pub load_ends : (number : ℕ) (had took : Side) (status : Status) (told_run : Option Closed) → (status ≡ WriteFault → ⊥) → AnswersLoad number had took status told_run → IsOr Done status
+pub load_ends : (number : ℕ) (had took : Side) (status : Status) (closed_run : Option Closed) → (status ≡ WriteFault → ⊥) → AnswersLoad number had took status closed_run → IsOr Done status
 load_ends number had took status None writes it = inr it.0
 load_ends number had took status (Some closed) writes it = due_or Done (load_line number (atoms_in (load number)) closed.history.entries closed.waits) status had took writes it.wrote

@@ -1,13 +1,16 @@
 -- What was read and written, by the words of the outside.
-use Rattle.std.proofs.Common.{◌≡◌, ◌≢◌, ◌⊎◌, ℕ, ◌≤◌, ◌+◌, arith, List, [], length, Option, Some, None, inl, inr, refl, sym, ap, ◌∙◌, subst, IfSome, IsSome}
+use Rattle.std.proofs.Common.{◌≡◌, ◌≢◌, ◌⊎◌, ℕ, ◌≤◌, ◌+◌, arith, List, [], length, Option, Some, None, Err, inl, inr, refl, sym, ap, ◌∙◌, subst, IfSome, IsSome}
 use Rattle.std.specs.Io.KnownBytes.{Appends, IsAtEnd}
 use Rattle.std.proofs.lemmas.List.{append-nil, drop_all}
 use Rattle.dcr_base.specs.Count.{Rose}
-use Rattle.dcr_base.specs.Side.{Side}
+use Rattle.dcr_base.specs.ReadStop.{CountsRead}
+use Rattle.dcr_base.specs.declared.reading.ReadStop.{ReadStop}
+use Rattle.dcr_base.specs.declared.reading.ReadStop.TheVariants as read
+use Rattle.dcr_base.specs.Side.{Adds, Side}
 use Rattle.dcr_base.specs.declared.status.Status.{Status}
 use Rattle.dcr_base.specs.declared.status.Status.TheVariants.{Done, Usage, Refused, ReadFault, WriteFault, NoMemory, DiskFault, Invalid, Full, TapeRefused, DoorFault}
 use Rattle.dcr_app.specs.Answers.{IsOr}
-use Rattle.dcr_app.specs.Outside.{Adds, CountsWhere, IsDue, IsOfReport, IsStarved, TookAtMost, WereLeft, Wrote}
+use Rattle.dcr_app.specs.Outside.{CountsWhere, IsDue, IsOfReport, IsStarved, TookAtMost, WereLeft, Wrote}
 
 -- ---- what was read
 
@@ -156,6 +159,12 @@ ended_read status had took it is = elim (subst NotRead is (read it)) [ ]
 -- no fault came, and none was counted
 pub uncounted : (failed : Type 0) (old new : ℕ) → (failed → ⊥) → new ≡ old → CountsWhere failed old new
 uncounted failed old new fine same = (omega (arith, same), λ is. absurd (fine is), λ _. same)
+
+-- what a reading counts
+pub read_counts : (stop : ReadStop) (old new : ℕ) → CountsRead {T = List ℕ} (Err stop) old new → CountsWhere (stop ≡ read.ReadFault) old new
+read_counts read.TooLong old new same = uncounted _ old new (λ is. absurd (let wrong : read.TooLong ≡ read.ReadFault = is in cc)) same
+read_counts read.ReadFault old new fails = (fails.0, λ _. fails.1, λ other. absurd (other refl))
+read_counts read.NoMemory old new same = uncounted _ old new (λ is. absurd (let wrong : read.NoMemory ≡ read.ReadFault = is in cc)) same
 
 -- and the output failed exactly where the status says so
 pub ended_counted : (status : Status) (had took : Side) → HasEnded status had took → CountsWhere (status ≡ WriteFault) had.faults took.faults

@@ -90,7 +90,7 @@ called_for (cause.BadTape at) status had took ends = called_line (cause.BadTape 
 called_for cause.Long status had took ends = called_line cause.Long status had took ends
 
 called_over : {D : Type 0} (view : D → DiskView) (faults : D → ℕ) (telling : Telling D) (case : Spelled) (policy : Roles) (old : List TapeEntry) (first : Store D) (end : D) (had took : Side) (status : Status)
-    (told_run : Option Closed) → EndsOver view faults telling case policy old first end had took status told_run → HasCalled status
+    (closed_run : Option Closed) → EndsOver view faults telling case policy old first end had took status closed_run → HasCalled status
 called_over view faults telling case policy old first end had took status (Some closed) it =
     by_wrote HasCalled tt tt it.report.0 (report_text case.nested case.cover closed.opening closed.history.entries) status had took it.report.2 (λ _. called_due it.report.0 it.report.1)
 called_over view faults telling case policy old first end had took status None it = called_for (tape_cause it.cause) status had took it.ends
@@ -109,7 +109,7 @@ module _ {D : Type 0} (view : D → DiskView) (faults : D → ℕ) (telling : Te
   off_left opening.DiskFault last leaves = elim leaves [ ]
 
   -- the disk is as it was
-  off_same : (told_run : Option Closed) → EndsOver view faults telling case policy [] (Off before) end had took status told_run → end ≡ before
+  off_same : (closed_run : Option Closed) → EndsOver view faults telling case policy [] (Off before) end had took status closed_run → end ≡ before
   off_same (Some closed) it = it.same ∙ (off_stands view faults before closed.history.entries it.last it.whole.stored).0
   off_same None it = it.same ∙ off_left it.cause it.last it.refused.leaves
 
@@ -119,9 +119,9 @@ module _ {D : Type 0} (view : D → DiskView) (faults : D → ℕ) (telling : Te
   off_refused (opening.BadTape at) last stands leaves ends = absurd (let there = stands.there in cc)
   off_refused opening.DiskFault last stands leaves ends = elim leaves [ ]
 
-  off_answers : AcceptedAreTheFormats → (bytes : List ℕ) → accepted_in bytes ≡ Ok (record { case = case; policy = policy }) → (told_run : Option Closed)
-      → EndsOver view faults telling case policy [] (Off before) end had took status told_run
-      → AnswersCase view faults telling false before end bytes had took status told_run
+  off_answers : AcceptedAreTheFormats → (bytes : List ℕ) → accepted_in bytes ≡ Ok (record { case = case; policy = policy }) → (closed_run : Option Closed)
+      → EndsOver view faults telling case policy [] (Off before) end had took status closed_run
+      → AnswersCase view faults telling false before end bytes had took status closed_run
   off_answers law bytes spelled (Some closed) it =
       tells_run view faults law telling false before end bytes case policy [] (Off before) had took status closed spelled (omega arith) refl it (off_same (Some closed) it)
       (λ off. (off_stands view faults before closed.history.entries it.last it.whole.stored).1) (λ taped. elim taped [ ])
@@ -178,9 +178,9 @@ module _ {D : Type 0} (view : D → DiskView) (faults : D → ℕ) (telling : Te
           let is : end ≡ tape.disk = same ∙ ap disk_in leaves in
           subst (λ d. IsTrue (view d).told × ((view d).content ≡ opened.before)) (sym is) (opened.told, opened.kept some)
 
-  on_answers : AcceptedAreTheFormats → (bytes : List ℕ) → accepted_in bytes ≡ Ok (record { case = case; policy = policy }) → (told_run : Option Closed)
-      → EndsOver view faults telling case policy old (On tape) end had took status told_run
-      → AnswersCase view faults telling true before end bytes had took status told_run
+  on_answers : AcceptedAreTheFormats → (bytes : List ℕ) → accepted_in bytes ≡ Ok (record { case = case; policy = policy }) → (closed_run : Option Closed)
+      → EndsOver view faults telling case policy old (On tape) end had took status closed_run
+      → AnswersCase view faults telling true before end bytes had took status closed_run
   on_answers law bytes spelled (Some closed) it =
       tells_run view faults law telling true before end bytes case policy old (On tape) had took status closed spelled opened.few
       (stood_for view faults one before tape digest old long opened) it (kept_by closed it) (λ e. absurd cc) (λ taped. refl)
@@ -193,7 +193,7 @@ module _ {D : Type 0} (view : D → DiskView) (faults : D → ℕ) (telling : Te
   still_for opening.DiskFault (Off disk) leaves = elim leaves [ ]
   still_for (opening.BadTape at) last leaves = subst (λ s. StandsStill view before (disk_in s)) (sym leaves) (still_opened view faults one before tape digest old long opened)
 
-  on_still : (told_run : Option Closed) → EndsOver view faults telling case policy old (On tape) end had took status told_run → told_run ≡ None → StandsStill view before end
+  on_still : (closed_run : Option Closed) → EndsOver view faults telling case policy old (On tape) end had took status closed_run → closed_run ≡ None → StandsStill view before end
   on_still (Some closed) it none = absurd cc
   on_still None it none = subst (λ d. StandsStill view before d) (sym it.same) (still_for it.cause it.last it.refused.leaves)
 
@@ -216,7 +216,7 @@ module _ {D : Type 0} (view : D → DiskView) (faults : D → ℕ) (telling : Te
   on_content : (bytes : List ℕ) → case_accepted bytes ≡ Ok case → IsTrue (view before).told → KeepsContent (Some bytes) (view before) (view end)
   on_content bytes spelled told = content_opened view faults one before tape digest old long opened bytes case spelled refl told end
 
-  on_settled : (told_run : Option Closed) → EndsOver view faults telling case policy old (On tape) end had took status told_run → told_run ≡ None → StaysSettled view before end status
+  on_settled : (closed_run : Option Closed) → EndsOver view faults telling case policy old (On tape) end had took status closed_run → closed_run ≡ None → StaysSettled view before end status
   on_settled (Some closed) it none = absurd cc
   on_settled None it none = subst (λ d. StaysSettled view before d status) (sym it.same) (settled_for it.cause it.last it.refused.leaves it.ends)
 
@@ -227,7 +227,7 @@ module _ {D : Type 0} (view : D → DiskView) (faults : D → ℕ) (telling : Te
   failed_open opening.NoMemory last leaves is = absurd cc
   failed_open (opening.BadTape at) last leaves is = absurd cc
 
-  on_counted : (told_run : Option Closed) → EndsOver view faults telling case policy old (On tape) end had took status told_run → status ≡ DiskFault → Rose (faults before) (faults end)
+  on_counted : (closed_run : Option Closed) → EndsOver view faults telling case policy old (On tape) end had took status closed_run → status ≡ DiskFault → Rose (faults before) (faults end)
   on_counted (Some closed) it is =
       ((kept_by closed it).failed
       (fault_told it.report.0 (report_text case.nested case.cover closed.opening closed.history.entries) status had took it.report.1 it.report.2 is)).1
@@ -245,7 +245,7 @@ module _ {D : Type 0} (view : D → DiskView) (faults : D → ℕ) (telling : Te
   no_fewer_ran J (inl none) kept = let same = kept.no_fault none in omega (arith, same)
   no_fewer_ran J (inr some) kept = (kept.failed some).0
 
-  on_no_fewer : (told_run : Option Closed) → EndsOver view faults telling case policy old (On tape) end had took status told_run → faults before ≤ faults end
+  on_no_fewer : (closed_run : Option Closed) → EndsOver view faults telling case policy old (On tape) end had took status closed_run → faults before ≤ faults end
   on_no_fewer (Some closed) it = no_fewer_ran closed.history.entries (either_way it.report.0 it.report.1) (kept_by closed it)
   on_no_fewer None it = subst (λ d. faults before ≤ faults d) (sym it.same) (no_fewer_open it.cause it.last it.refused.leaves)
 
@@ -257,21 +257,21 @@ module _ {D : Type 0} (view : D → DiskView) (faults : D → ℕ) (telling : Te
   told_open opening.NoMemory (Off disk) leaves ends other = absurd cc
   told_open (opening.BadTape at) last leaves ends other = ap (λ s. faults (disk_in s)) leaves ∙ same_faults
 
-  on_told : (told_run : Option Closed) → EndsOver view faults telling case policy old (On tape) end had took status told_run → told_run ≡ None → status ≢ DiskFault
+  on_told : (closed_run : Option Closed) → EndsOver view faults telling case policy old (On tape) end had took status closed_run → closed_run ≡ None → status ≢ DiskFault
       → faults end ≡ faults before
   on_told (Some closed) it none other = absurd cc
   on_told None it none other = ap faults it.same ∙ told_open it.cause it.last it.refused.leaves it.ends other
 
-  on_leaves : (bytes : List ℕ) → case_accepted bytes ≡ Ok case → (told_run : Option Closed) → EndsOver view faults telling case policy old (On tape) end had took status told_run
-      → CallsDisk view faults (Some bytes) before end status told_run
-  on_leaves bytes spelled told_run it = record {
-    never_falls = on_no_fewer told_run it;
-    counted = on_counted told_run it;
-    told = on_told told_run it;
-    still = on_still told_run it;
-    settled = on_settled told_run it;
+  on_leaves : (bytes : List ℕ) → case_accepted bytes ≡ Ok case → (closed_run : Option Closed) → EndsOver view faults telling case policy old (On tape) end had took status closed_run
+      → CallsDisk view faults (Some bytes) before end status closed_run
+  on_leaves bytes spelled closed_run it = record {
+    never_falls = on_no_fewer closed_run it;
+    counted = on_counted closed_run it;
+    told = on_told closed_run it;
+    still = on_still closed_run it;
+    settled = on_settled closed_run it;
     content = λ none told. on_content bytes spelled told;
-    uncalled = λ is. absurd (not_uncalled status (called_over view faults telling case policy old (On tape) end had took status told_run it) is);
+    uncalled = λ is. absurd (not_uncalled status (called_over view faults telling case policy old (On tape) end had took status closed_run it) is);
   }
 
 -- ---- over the store that a run begins with
@@ -290,19 +290,19 @@ few_begin view faults digest false before first old begins = let none = ap lengt
 
 -- what is answered, and what becomes of the disk
 pub over_begun : {D : Type 0} (view : D → DiskView) (faults : D → ℕ) (telling : Telling D) (case : Spelled) (policy : Roles) → AcceptedAreTheFormats → OneList → (store : Bool) (before : D) (first : Store D)
-    (old : List TapeEntry) (end : D) (had took : Side) (status : Status) (told_run : Option Closed) → length (digest_of case) ≡ 32 → Begins view faults (digest_of case) store before first old
-    → EndsOver view faults telling case policy old first end had took status told_run → (bytes : List ℕ) → accepted_in bytes ≡ Ok (record { case = case; policy = policy })
-    → AnswersCase view faults telling store before end bytes had took status told_run × LeavesDisk store view faults (Some bytes) before end status told_run
-over_begun view faults telling case policy law one true before (On tape) old end had took status told_run long begins it bytes spelled = (
-  on_answers view faults telling case policy one before tape old long begins.opened begins.no_fault end had took status law bytes spelled told_run it,
-  on_leaves view faults telling case policy one before tape old long begins.opened begins.no_fault end had took status bytes (case_of_both bytes (record { case = case; policy = policy }) spelled) told_run it,
+    (old : List TapeEntry) (end : D) (had took : Side) (status : Status) (closed_run : Option Closed) → length (digest_of case) ≡ 32 → Begins view faults (digest_of case) store before first old
+    → EndsOver view faults telling case policy old first end had took status closed_run → (bytes : List ℕ) → accepted_in bytes ≡ Ok (record { case = case; policy = policy })
+    → AnswersCase view faults telling store before end bytes had took status closed_run × LeavesDisk store view faults (Some bytes) before end status closed_run
+over_begun view faults telling case policy law one true before (On tape) old end had took status closed_run long begins it bytes spelled = (
+  on_answers view faults telling case policy one before tape old long begins.opened begins.no_fault end had took status law bytes spelled closed_run it,
+  on_leaves view faults telling case policy one before tape old long begins.opened begins.no_fault end had took status bytes (case_of_both bytes (record { case = case; policy = policy }) spelled) closed_run it,
 )
-over_begun view faults telling case policy law one true before (Off disk) old end had took status told_run long begins it bytes spelled = elim begins [ ]
-over_begun view faults telling case policy law one false before first old end had took status told_run long begins it bytes spelled =
-    let over = subst (λ s. EndsOver view faults telling case policy [] s end had took status told_run) begins.0
-    (subst (λ l. EndsOver view faults telling case policy l first end had took status told_run) begins.1 it) in (
-      off_answers view faults telling case policy before end had took status law bytes spelled told_run over,
-      off_same view faults telling case policy before end had took status told_run over,
+over_begun view faults telling case policy law one true before (Off disk) old end had took status closed_run long begins it bytes spelled = elim begins [ ]
+over_begun view faults telling case policy law one false before first old end had took status closed_run long begins it bytes spelled =
+    let over = subst (λ s. EndsOver view faults telling case policy [] s end had took status closed_run) begins.0
+    (subst (λ l. EndsOver view faults telling case policy l first end had took status closed_run) begins.1 it) in (
+      off_answers view faults telling case policy before end had took status law bytes spelled closed_run over,
+      off_same view faults telling case policy before end had took status closed_run over,
     )
 
 -- ---- a disk that was not opened as a tape

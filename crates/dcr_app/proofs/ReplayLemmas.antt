@@ -1,7 +1,7 @@
 -- What `replay` answers.
 use Rattle.std.proofs.Common.{◌≡◌, ℕ, ◌≤◌, List, length, Option, Some, inl, inr, refl, ap, subst, ◌∙◌, arith}
 use Rattle.dcr_base.specs.Disk.{DiskView}
-use Rattle.dcr_base.specs.Side.{Side}
+use Rattle.dcr_base.specs.Side.{Adds, Side}
 use Rattle.dcr_base.specs.declared.status.Status.{Status}
 use Rattle.dcr_base.specs.declared.status.Status.TheVariants.{WriteFault}
 use Rattle.dcr_journal.specs.declared.closed.Closed.{Closed}
@@ -12,7 +12,7 @@ use Rattle.dcr_replay.specs.OneVerdict.{VerdictIsOne}
 use Rattle.dcr_replay.specs.declared.verdict.Verdict.{Verdict}
 use Rattle.dcr_replay.specs.declared.verdict.Verdict.TheVariants as verdict
 use Rattle.dcr_app.specs.Answers.{AnswersReport, IsAnsweredReport, IsOr, verdict_line, verdict_status}
-use Rattle.dcr_app.specs.Outside.{Adds, IsDue, WereLeft, Wrote}
+use Rattle.dcr_app.specs.Outside.{IsDue, WereLeft, Wrote}
 use Rattle.dcr_app.specs.declared.command.Command.TheVariants.{Replay}
 use Rattle.dcr_app.proofs.OutsideLemmas.{HasEnded, by_starved, by_wrote, due_or, of_left, ended_silent, ended_with}
 use Rattle.dcr_app.proofs.SaysLemmas.{SaysAt}
@@ -33,13 +33,13 @@ report_ended bytes had took status (inl starved) = ended_silent (inl starved.0) 
 report_ended bytes had took status (inr it) = ended_with (verdict_status it.found) (verdict_line it.found) (verdict_is_due it.found) it.line
 
 -- what the status says
-pub report_says : ValidIsReport → VerdictIsOne → LeastIsTold → (before after : DiskView) (left : Option (List ℕ)) (bytes : List ℕ) (had took : Side) (told_run : Option Closed) (status : Status)
-    → WereLeft left bytes → AnswersReport bytes had took status → SaysAt (Some Replay) before after left had took told_run status
-report_says law one first before after left bytes had took told_run status read (inl starved) = by_starved (SaysAt (Some Replay) before after left had took told_run) tt status had took starved
-report_says law one first before after left bytes had took told_run status read (inr it) =
-    by_wrote (SaysAt (Some Replay) before after left had took told_run) tt tt (verdict_status it.found) (verdict_line it.found) status had took it.line (of_verdict it.found it.is)
+pub report_says : ValidIsReport → VerdictIsOne → LeastIsTold → (before after : DiskView) (left : Option (List ℕ)) (bytes : List ℕ) (had took : Side) (closed_run : Option Closed) (status : Status)
+    → WereLeft left bytes → AnswersReport bytes had took status → SaysAt (Some Replay) before after left had took closed_run status
+report_says law one first before after left bytes had took closed_run status read (inl starved) = by_starved (SaysAt (Some Replay) before after left had took closed_run) tt status had took starved
+report_says law one first before after left bytes had took closed_run status read (inr it) =
+    by_wrote (SaysAt (Some Replay) before after left had took closed_run) tt tt (verdict_status it.found) (verdict_line it.found) status had took it.line (of_verdict it.found it.is)
   where
-    of_verdict : (v : Verdict) → IsVerdict bytes v → Adds (verdict_line v) had took → SaysAt (Some Replay) before after left had took told_run (verdict_status v)
+    of_verdict : (v : Verdict) → IsVerdict bytes v → Adds (verdict_line v) had took → SaysAt (Some Replay) before after left had took closed_run (verdict_status v)
     of_verdict (verdict.Valid count) is adds = record { count = count; report = of_left (λ it. IsReport it count) left bytes read ((law bytes count).0 is); wrote = adds.0 }
     of_verdict (verdict.Invalid number kind) is adds = (
       refl,

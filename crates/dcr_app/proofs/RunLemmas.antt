@@ -44,7 +44,7 @@ use Rattle.dcr_app.specs.Answers.{AnswersCase, IsDoneThroughout, IsRefused, IsTo
 use Rattle.dcr_app.specs.Headline.{BeginsWith, Headline, digest_of, rules_in}
 use Rattle.dcr_app.specs.Outside.{IsStarved, WereLeft, Wrote}
 use Rattle.dcr_app.specs.Refusal.{refusal_line}
-use Rattle.dcr_app.specs.Stored.{Keeps, RanOver}
+use Rattle.dcr_app.specs.Stored.{KeepsRun, RanOver}
 use Rattle.dcr_app.specs.Telling.{IsDueBy, Telling, all_done, by_workers, disk_failed, door_failed, is_full}
 use Rattle.dcr_app.proofs.OutsideLemmas.{wrote_at}
 
@@ -83,7 +83,7 @@ no_fault_done due text status had took (door_failed none room failed is) line do
 pub tells_run : {D : Type 0} (view : D → DiskView) (faults : D → ℕ) → AcceptedAreTheFormats → (telling : Telling D) (store : Bool) (before after_it : D) (bytes : List ℕ) (case : Spelled) (policy : Roles)
     (old : List TapeEntry) (first : Store D) (had took : Side) (status : Status) (closed : Closed) → accepted_in bytes ≡ Ok (record { case = case; policy = policy }) → length old ≤ most_records
     → BeginsWith store (digest_of case) (view before) old → RanOver view faults telling case policy old first after_it had took status closed
-    → Keeps store view faults (digest_of case) old closed.history.entries before after_it → (store ≡ false → HasNoFault closed.history.entries) → (IsTaped (Some first) → store ≡ true)
+    → KeepsRun store view faults (digest_of case) old closed.history.entries before after_it → (store ≡ false → HasNoFault closed.history.entries) → (IsTaped (Some first) → store ≡ true)
     → TellsRun view faults telling store before after_it (Some bytes) ⊤ had took status closed
 tells_run view faults law telling store before after_it bytes case policy old first had took status closed spelled few begins over keeps unstored taped =
     let G = rules_in case in let C = case.cover.owned in let J = closed.history.entries in
@@ -255,8 +255,8 @@ module _ {D : Type 0} (view : D → DiskView) (faults : D → ℕ) (law : Accept
       → (it : TellsRun view faults (by_workers workers) store before end (Some bytes) ⊤ had took status closed) → it.case ≡ case
   same_case bytes case closed is it = one_case bytes case it.case is (read_as view faults (by_workers workers) store before end law bytes ⊤ had took status closed it)
 
-  pub told_by_one : (bytes : List ℕ) (told_run : Option Closed) → AnswersCase view faults (by_workers workers) store before end bytes had took status told_run
-      → IsToldByOne workers (Some bytes) told_run
+  pub told_by_one : (bytes : List ℕ) (closed_run : Option Closed) → AnswersCase view faults (by_workers workers) store before end bytes had took status closed_run
+      → IsToldByOne workers (Some bytes) closed_run
   told_by_one bytes None it = λ case is. tt
   told_by_one bytes (Some closed) it = λ case is one none.
       let J = closed.history.entries in
@@ -264,8 +264,8 @@ module _ {D : Type 0} (view : D → DiskView) (faults : D → ℕ) (law : Accept
       (subst (λ w. IsInWorkerOrder w J) one it.headline.order) none
       ∙ ap (λ (c : Spelled). told (rules_in c) c.cover.owned closed.opening c.sessions) (same_case bytes case closed is it)
 
-  pub done_throughout : (bytes : List ℕ) (told_run : Option Closed) → AnswersCase view faults (by_workers workers) store before end bytes had took status told_run
-      → IsDoneThroughout (Some bytes) told_run
+  pub done_throughout : (bytes : List ℕ) (closed_run : Option Closed) → AnswersCase view faults (by_workers workers) store before end bytes had took status closed_run
+      → IsDoneThroughout (Some bytes) closed_run
   done_throughout bytes None it = λ case events executions is one spell. tt
   done_throughout bytes (Some closed) it = λ case events executions is one spell run none.
       let J = closed.history.entries in let M = closed.opening in

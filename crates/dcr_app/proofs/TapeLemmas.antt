@@ -57,9 +57,9 @@ pub content_same : {D : Type 0} (view : D → DiskView) (left : Option (List ℕ
 content_same view left before after same told =
     as_it_was (subst (λ d. IsTrue (view d).told) (sym same) told) (ap (λ d. (view d).content) same)
 
-pub uncalled_disk : {D : Type 0} (view : D → DiskView) (faults : D → ℕ) (left : Option (List ℕ)) (before after : D) (status : Status) (told_run : Option Closed) → after ≡ before → status ≢ DiskFault
-    → CallsDisk view faults left before after status told_run
-uncalled_disk view faults left before after status told_run same fine = record {
+pub uncalled_disk : {D : Type 0} (view : D → DiskView) (faults : D → ℕ) (left : Option (List ℕ)) (before after : D) (status : Status) (closed_run : Option Closed) → after ≡ before → status ≢ DiskFault
+    → CallsDisk view faults left before after status closed_run
+uncalled_disk view faults left before after status closed_run same fine = record {
   never_falls = let count = ap faults same in omega (arith, count);
   counted = λ is. absurd (fine is);
   told = λ _ _. ap faults same;
@@ -69,10 +69,10 @@ uncalled_disk view faults left before after status told_run same fine = record {
   uncalled = λ _. same;
 }
 
-pub uncalled_by : {D : Type 0} (store : Bool) (view : D → DiskView) (faults : D → ℕ) (left : Option (List ℕ)) (before after : D) (status : Status) (told_run : Option Closed) → after ≡ before → status ≢ DiskFault
-    → LeavesDisk store view faults left before after status told_run
-uncalled_by true view faults left before after status told_run same fine = uncalled_disk view faults left before after status told_run same fine
-uncalled_by false view faults left before after status told_run same fine = same
+pub uncalled_by : {D : Type 0} (store : Bool) (view : D → DiskView) (faults : D → ℕ) (left : Option (List ℕ)) (before after : D) (status : Status) (closed_run : Option Closed) → after ≡ before → status ≢ DiskFault
+    → LeavesDisk store view faults left before after status closed_run
+uncalled_by true view faults left before after status closed_run same fine = uncalled_disk view faults left before after status closed_run same fine
+uncalled_by false view faults left before after status closed_run same fine = same
 
 -- what is said of bytes holds of the input that had them left
 pub content_left : (left : Option (List ℕ)) (bytes : List ℕ) (before after : DiskView) → IfSome left (λ it. bytes ≡ it) → KeepsContent (Some bytes) before after → KeepsContent left before after
@@ -81,9 +81,9 @@ content_left left bytes before after all (was_empty none) = was_empty none
 content_left (Some it) bytes before after all (was_its_tape found read case spelled old stands) = was_its_tape found (sym all ∙ read) case spelled old stands
 content_left None bytes before after all (was_its_tape found read case spelled old stands) = was_its_tape found tt case spelled old stands
 
-pub disk_left : {D : Type 0} (store : Bool) (view : D → DiskView) (faults : D → ℕ) (left : Option (List ℕ)) (bytes : List ℕ) (before after : D) (status : Status) (told_run : Option Closed)
-    → IfSome left (λ it. bytes ≡ it) → LeavesDisk store view faults (Some bytes) before after status told_run → LeavesDisk store view faults left before after status told_run
-disk_left true view faults left bytes before after status told_run all it = record {
+pub disk_left : {D : Type 0} (store : Bool) (view : D → DiskView) (faults : D → ℕ) (left : Option (List ℕ)) (bytes : List ℕ) (before after : D) (status : Status) (closed_run : Option Closed)
+    → IfSome left (λ it. bytes ≡ it) → LeavesDisk store view faults (Some bytes) before after status closed_run → LeavesDisk store view faults left before after status closed_run
+disk_left true view faults left bytes before after status closed_run all it = record {
   never_falls = it.never_falls;
   counted = it.counted;
   told = it.told;
@@ -92,7 +92,7 @@ disk_left true view faults left bytes before after status told_run all it = reco
   content = λ none told. content_left left bytes (view before) (view after) all (it.content none told);
   uncalled = it.uncalled;
 }
-disk_left false view faults left bytes before after status told_run all it = it
+disk_left false view faults left bytes before after status closed_run all it = it
 
 -- ---- a tape that was opened
 

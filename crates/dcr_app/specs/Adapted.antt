@@ -77,17 +77,17 @@ pub record IsRunOfStage (s : Stage) (closed : Closed) : Type 0 where
 
 -- the run of the last of so many stages is told; of none, what is told is the run before them, if there is one
 abbrev pub IsToldOf : List Stage → Option Closed → ℕ → Option Closed → Type 0
-IsToldOf stages before zero told_run = told_run ≡ before
-IsToldOf stages before (suc k) told_run = (s : Stage) × (closed : Closed) × (slice_get stages k ≡ Some s) × (told_run ≡ Some closed) × IsRunOfStage s closed
+IsToldOf stages before zero closed_run = closed_run ≡ before
+IsToldOf stages before (suc k) closed_run = (s : Stage) × (closed : Closed) × (slice_get stages k ≡ Some s) × (closed_run ≡ Some closed) × IsRunOfStage s closed
 
 -- Of these stages so many were run, each to its end, the last of which is told, and the reports of all were due. What was
 -- written reaches behind the report of the one before the last, and not behind that of the last; where the output failed it
 -- doesn't reach its end. Each report by itself is that of a legal history.
-pub record RunsStages (stages : List Stage) (before : Option Closed) (had took : Side) (status : Status) (told_run : Option Closed) : Type 0 where
+pub record RunsStages (stages : List Stage) (before : Option Closed) (had took : Side) (status : Status) (closed_run : Option Closed) : Type 0 where
   pub count : ℕ
   pub within : count ≤ length stages
   pub all : status ≡ Done → count ≡ length stages
-  pub told : IsToldOf stages before count told_run
+  pub told : IsToldOf stages before count closed_run
   pub wrote : Wrote Done (reports_of stages) status had took
   pub reach : ℕ
   pub far : length (reports_of (take (count - 1) stages)) ≤ reach
@@ -116,17 +116,17 @@ pub record IsRefusedAdapt (bytes : List ℕ) (had took : Side) (status : Status)
 -- ---- answers
 
 -- The stages that the bytes spell, one in each line, were run, one after the other, and their reports were due.
-pub record TellsStages (bytes : List ℕ) (had took : Side) (status : Status) (told_run : Option Closed) : Type 0 where
+pub record TellsStages (bytes : List ℕ) (had took : Side) (status : Status) (closed_run : Option Closed) : Type 0 where
   pub stages : List Stage
   pub spelled : stages_in bytes ≡ Ok (map case_of_stage stages)
   pub first : BeginsAsWritten stages
   pub next : GoesOn stages
-  pub runs : RunsStages stages None had took status told_run
+  pub runs : RunsStages stages None had took status closed_run
 
 -- else nothing was written, or the bytes are refused, and no run is told
 abbrev pub AnswersStages : List ℕ → Side → Side → Status → Option Closed → Type 0
-AnswersStages bytes had took status told_run =
-    ((told_run ≡ None) × (IsStarved status had took ⊎ IsRefusedAdapt bytes had took status)) ⊎ TellsStages bytes had took status told_run
+AnswersStages bytes had took status closed_run =
+    ((closed_run ≡ None) × (IsStarved status had took ⊎ IsRefusedAdapt bytes had took status)) ⊎ TellsStages bytes had took status closed_run
 
 -- what was written with Done are reports of legal histories, each of which `replay` finds valid by itself
 pub record WroteReports (had took : Option (List ℕ)) : Type 0 where

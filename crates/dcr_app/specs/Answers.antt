@@ -3,7 +3,7 @@ use Rattle.std.specs.Prelude.{◌≡◌, ◌≢◌, ◌⊎◌, ℕ, ◌<◌, ◌
 use Rattle.std.specs.Io.KnownBytes.{Appends}
 use Rattle.std.specs.List.{All}
 use Rattle.dcr_base.specs.Disk.{DiskView}
-use Rattle.dcr_base.specs.Side.{Side}
+use Rattle.dcr_base.specs.Side.{Adds, Side}
 use Rattle.dcr_base.specs.declared.status.Status.{Status}
 use Rattle.dcr_base.specs.declared.status.Status.TheVariants.{Done, Usage, Refused, NoMemory, DiskFault, Invalid, Full, TapeRefused, DoorFault}
 use Rattle.dcr_base.specs.declared.status.Status.TheVariants as named
@@ -44,10 +44,11 @@ use Rattle.dcr_app.specs.Adapted.{AnswersStages, IsAnsweredStages, WroteReports,
 use Rattle.dcr_app.specs.Headline.{Headline, cluster_in, digest_of, rules_in}
 use Rattle.dcr_app.specs.Loaded.{AnswersLoad}
 use Rattle.dcr_app.specs.Logged.{AnswersLog, InputRefusal, IsAnsweredLog, IsInputRefused, input_line}
-use Rattle.dcr_app.specs.Outside.{Adds, FromInput, IsStarved, WereLeft, Wrote, most_bytes}
+use Rattle.dcr_app.specs.Outside.{FromInput, IsStarved, WereLeft, Wrote, most_bytes}
 use Rattle.dcr_app.specs.Refusal.{case_line, refusal_line}
-use Rattle.dcr_app.specs.Stored.{Keeps, RefusesTape, tape_line}
-use Rattle.dcr_app.specs.Telling.{Doors, Telling, by_workers, over_links}
+use Rattle.dcr_app.specs.Stored.{KeepsRun, RefusesTape, tape_line}
+use Rattle.dcr_app.specs.Telling.{Telling, by_workers, over_links}
+use Rattle.dcr_base.specs.Door.{Doors}
 use Rattle.dcr_app.specs.declared.app.End.{End}
 use Rattle.dcr_app.specs.declared.command.Command.{Command}
 use Rattle.dcr_app.specs.declared.command.Command.TheVariants.{Run, Serve, Replay, Load, Nodes, Conform, Adapt}
@@ -68,7 +69,7 @@ pub record TellsRun {D : Type 0} (view : D → DiskView) (faults : D → ℕ) (t
   pub taped : IsTaped (Some first) → store ≡ true
   pub headline : Headline telling store (view before) first case policy old left has_ended had took status closed
   pub legal : IsReport (report_text case.nested case.cover closed.opening closed.history.entries) (length closed.history.entries)
-  pub disk : Keeps store view faults (digest_of case) old closed.history.entries before after
+  pub disk : KeepsRun store view faults (digest_of case) old closed.history.entries before after
 
 -- the bytes are not accepted, and the line of the first refusal was due
 pub record IsRefused (bytes : List ℕ) (had took : Side) (status : Status) : Type 0 where
@@ -108,20 +109,20 @@ AnswersCase view faults telling store before after bytes had took status None = 
 -- single session that spells a run of the graph from where it begins, each event at a site that owns it, is answered by
 -- done at each of its calls, by however many workers.
 abbrev pub IsToldByOne : ℕ → Option (List ℕ) → Option Closed → Type 0
-IsToldByOne workers left told_run = IfSome left (λ bytes. (case : Spelled) → case_accepted bytes ≡ Ok case
-    → IfSome told_run (λ closed. workers ≡ 1 → HasNoFault closed.history.entries
+IsToldByOne workers left closed_run = IfSome left (λ bytes. (case : Spelled) → case_accepted bytes ≡ Ok case
+    → IfSome closed_run (λ closed. workers ≡ 1 → HasNoFault closed.history.entries
     → closed.history.entries ≡ told (rules_in case) case.cover.owned closed.opening case.sessions))
 
 abbrev pub IsDoneThroughout : Option (List ℕ) → Option Closed → Type 0
-IsDoneThroughout left told_run = IfSome left (λ bytes. (case : Spelled) (events : List ℕ) (executions : List (ℕ × ℕ)) → case_accepted bytes ≡ Ok case
+IsDoneThroughout left closed_run = IfSome left (λ bytes. (case : Spelled) (events : List ℕ) (executions : List (ℕ × ℕ)) → case_accepted bytes ≡ Ok case
     → case.sessions ≡ calls_for executions ∷ [] → Spell case.cover.owned events executions
-    → IfSome told_run (λ closed. IsRun (rules_in case) closed.opening events → HasNoFault closed.history.entries
+    → IfSome closed_run (λ closed. IsRun (rules_in case) closed.opening events → HasNoFault closed.history.entries
     → All (λ (entry : Entry). entry.outcome ≡ outcome.Done) closed.history.entries))
 
 -- what is told of a run the other way round
 abbrev pub IsConverse : Option Command → Option (List ℕ) → Option Closed → Type 0
-IsConverse (Some (Run workers store)) left told_run = IsToldByOne workers left told_run × IsDoneThroughout left told_run
-IsConverse command left told_run = ⊤
+IsConverse (Some (Run workers store)) left closed_run = IsToldByOne workers left closed_run × IsDoneThroughout left closed_run
+IsConverse command left closed_run = ⊤
 
 -- ---- `replay`
 
@@ -203,7 +204,8 @@ Answers view faults doors (Some (Load number)) door before left has_ended had to
 Answers view faults doors (Some command) door before left has_ended had took end =
     FromInput (most_bytes command) left has_ended had took end.status (IsUntold end) (λ bytes. AnswersBytes view faults doors command door before bytes had took end)
 
--- A run of a case that `run` or `serve` tells is the headline's (`TellsRun`), whatever the status.
+-- A run of a case that `run` or `serve` tells is the headline's, whatever the status. `answers` says so too, of each command and with the
+-- other answers; this is the part of it that is cited alone. `TellsRun` has besides the headline what `replay` finds and what the disk has.
 abbrev pub IsHeadline : {D B L R : Type 0} → (D → DiskView) → (D → ℕ) → Doors B L R → Option Command → B → D → Option (List ℕ) → Type 0 → Side → Side → End B D L R → Type 0
 IsHeadline view faults doors (Some (Run workers store)) door before left has_ended had took end =
     IfSome end.closed (λ closed. TellsRun view faults (by_workers workers) store before end.disk left has_ended had took end.status closed)
@@ -222,7 +224,7 @@ IsReporting command = ⊥
 
 -- the report that was written is that of a legal history, so that `replay` finds it valid
 abbrev pub WroteReport : Option (List ℕ) → Option (List ℕ) → Option Closed → Type 0
-WroteReport had took told_run = IfSome told_run (λ closed. (text : List ℕ) × Appends had took text × IsReport text (length closed.history.entries))
+WroteReport had took closed_run = IfSome closed_run (λ closed. (text : List ℕ) × Appends had took text × IsReport text (length closed.history.entries))
 
 -- the line that was written says that the input is the report of a legal history, with the number of its entries
 pub record SaysValid (left had took : Option (List ℕ)) : Type 0 where
@@ -255,8 +257,8 @@ Refuses command left had took = (IfSome left (λ bytes. most_bytes command < len
 
 -- What each status says: of what was written, and with which command it comes. `before` and `after` are the disk at entry and now.
 abbrev pub Says : Option Command → DiskView → DiskView → Option (List ℕ) → Side → Side → Option Closed → Status → Type 0
-Says command before after left had took told_run status =
-    (status ≡ Done → IsReporting command → WroteReport had.bytes took.bytes told_run)
+Says command before after left had took closed_run status =
+    (status ≡ Done → IsReporting command → WroteReport had.bytes took.bytes closed_run)
     × (status ≡ Done → command ≡ Some Replay → SaysValid left had.bytes took.bytes)
     × (status ≡ Done → command ≡ Some Adapt → WroteReports had.bytes took.bytes)
     × (status ≡ Invalid → (command ≡ Some Replay) × SaysInvalid left had.bytes took.bytes)
@@ -264,8 +266,8 @@ Says command before after left had took told_run status =
     × (status ≡ Refused → (reading : Command) × (command ≡ Some reading) × Refuses reading left had.bytes took.bytes)
     × (status ≡ TapeRefused → (is_stored command ≡ true) × ((bytes : List ℕ) × WereLeft left bytes × IsTapeRefused bytes before after had took TapeRefused))
     × (status ≡ DiskFault → is_stored command ≡ true)
-    × (status ≡ Full → IsServing command × IfSome told_run (λ closed. length closed.history.entries ≡ most_served))
-    × (status ≡ DoorFault → IsServing command × (told_run ≢ None))
+    × (status ≡ Full → IsServing command × IfSome closed_run (λ closed. length closed.history.entries ≡ most_served))
+    × (status ≡ DoorFault → IsServing command × (closed_run ≢ None))
 
 -- ---- where nothing fails
 
@@ -309,11 +311,11 @@ IsAnswered (Nodes number) disk bytes status = IsAnsweredCase EndsRun false disk 
 IsAnswered Conform disk bytes status = IsAnsweredLog bytes status
 IsAnswered Adapt disk bytes status = IsAnsweredStages bytes status
 
--- What the program ends with where no fault was counted: of the input, of the output, and, where the command calls them, of the disk and of
--- the door.
+-- What the program ends with unless one of these came: a failed read, a failed write, and, where the command calls them, a failed disk
+-- and a failed door.
 abbrev pub EndsAs : Option Command → DiskView → Option (List ℕ) → Type 0 → Type 0 → Type 0 → Type 0 → Status → Type 0
-EndsAs None disk left reads writes disks doors status = (status ≡ Usage) ⊎ (status ≡ named.WriteFault)
-EndsAs (Some (Load number)) disk left reads writes disks doors status = (writes → ⊥) → IsOr Done status
-EndsAs (Some command) disk left reads writes disks doors status =
-    (reads → ⊥) → (writes → ⊥) → ((is_stored (Some command) ≡ true) × disks → ⊥) → (IsServing (Some command) × doors → ⊥)
+EndsAs None disk left reads_failed writes_failed disks_failed doors_failed status = (status ≡ Usage) ⊎ (status ≡ named.WriteFault)
+EndsAs (Some (Load number)) disk left reads_failed writes_failed disks_failed doors_failed status = (writes_failed → ⊥) → IsOr Done status
+EndsAs (Some command) disk left reads_failed writes_failed disks_failed doors_failed status =
+    (reads_failed → ⊥) → (writes_failed → ⊥) → ((is_stored (Some command) ≡ true) × disks_failed → ⊥) → (IsServing (Some command) × doors_failed → ⊥)
     → IfSome left (λ bytes. IsAnswered command disk bytes status)

@@ -1,4 +1,4 @@
--- The headline: the run that `run` tells of is the journal of one run of the whole graph.
+-- The headline: the history that `run` or `serve` hands back is one run of the whole graph, and the report that is written is its journal.
 use Rattle.std.specs.Prelude.{◌≡◌, ◌⊎◌, ℕ, Bool, true, false, IsTrue, List, [], Option}
 use Rattle.sha2.specs.Sha256.{sha256}
 use Rattle.dcr_base.specs.Disk.{DiskView}
@@ -18,7 +18,7 @@ use Rattle.dcr_cell.specs.ClusterId.{ClusterId, begun}
 use Rattle.dcr_json.specs.Judged.{Spelled}
 use Rattle.dcr_policy.specs.Roles.{Roles}
 use Rattle.dcr_roles.specs.Laws.{SpellsBoth}
-use Rattle.dcr_report.specs.Report.{case_text, report_text}
+use Rattle.dcr_report.specs.Report.{digested_text, report_text}
 use Rattle.dcr_app.specs.Outside.{WereLeft, Wrote}
 use Rattle.dcr_app.specs.Telling.{IsDueBy, Telling}
 
@@ -30,7 +30,7 @@ rules_in case = flat_relation case.nested
 
 -- the digest that names a case on its tape
 abbrev pub digest_of : Spelled → List ℕ
-digest_of case = sha256 (case_text case.nested case.cover case.opening)
+digest_of case = sha256 (digested_text case.nested case.cover case.opening)
 
 -- the cluster of a case that goes on from these executions
 abbrev pub cluster_in : Spelled → List TapeEntry → ClusterId
@@ -63,15 +63,16 @@ pub record Headline {D : Type 0} (telling : Telling D) (store : Bool) (disk : Di
   -- 1. The bytes that the input had left at entry spell the case and its policy, which denies no call of its sessions, and
   -- none is left.
   pub input : (bytes : List ℕ) × WereLeft left bytes × SpellsBoth bytes (record { case = case; policy = policy }) × has_ended
-  -- 2. The run begins with the opening marking of the case, stepped by the executions that the disk stood for. Its history
-  -- is a run of the whole graph, in which each call has the graph's answer at its place; with `Done`, and without a store,
-  -- no execution failed.
+  -- 2. The run begins with the opening marking of the case, stepped by the executions that the disk stood for, where it tells
+  -- its content. Its history is a run of the whole graph, in which each call has the graph's answer at its place, but that the
+  -- last may be a fault in the place of `done`; with `Done`, and also whenever there is no store, no execution failed.
   pub history : BeginsWith store (digest_of case) disk old
       × (closed.opening ≡ begun (cluster_in case old))
       × IsLegal (rules_in case) case.cover.owned closed.opening closed.history.entries
       × ((status ≡ Done) ⊎ (store ≡ false) → HasNoFault closed.history.entries)
-  -- 3. It has every call of each session, once and in order, and no entry of another session (`HasCalls`). Sessions over
-  -- links have those that their links asked for, and each was answered by its entries (`ServedIn`).
+  -- 3. It has the first calls of each session, in order and each once, all of them where nothing failed, and no entry of
+  -- another session (`HasCalls`). Sessions over links have those that their links asked for, all of them where the link has
+  -- ended, and each was answered by its entries (`ServedIn`).
   pub sessions : telling.sessions first case policy closed.history.entries
   -- 4. Of two sessions of one worker every entry of the earlier one stands before every entry of the later one. Of sessions
   -- over links no order is claimed.
@@ -79,6 +80,7 @@ pub record Headline {D : Type 0} (telling : Telling D) (store : Bool) (disk : Di
   -- 5. Every site's marks are the projection of the marking after the history, and the verdict is that marking's.
   pub sites : (closed.marks ≡ marks_at (rules_in case) case.cover.owned (after (rules_in case) closed.opening closed.history.entries))
       × (closed.waits ≡ waits (rules_in case).atoms (after (rules_in case) closed.opening closed.history.entries))
-  -- 6. What the output took is the report of this history.
+  -- 6. What the output took is the report of this history: all of it with the status that was due, or a front of it where the
+  -- output failed or memory ran out.
   pub report : (due : Status) × IsDueFor telling closed.history.entries due
       × Wrote due (report_text case.nested case.cover closed.opening closed.history.entries) status had took

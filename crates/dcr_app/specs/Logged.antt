@@ -28,22 +28,22 @@ first_piece [] = []
 first_piece (piece ∷ pieces) = piece
 
 -- the case file is what stands before the first line end
-abbrev pub case_text : List ℕ → List ℕ
-case_text bytes = first_piece (pieces_of 10 bytes)
+abbrev pub case_bytes : List ℕ → List ℕ
+case_bytes bytes = first_piece (pieces_of 10 bytes)
 
 -- and the log is what stands behind it; without a line end it is empty
-abbrev pub log_text : List ℕ → List ℕ
-log_text bytes = drop (length (case_text bytes) + 1) bytes
+abbrev pub log_bytes : List ℕ → List ℕ
+log_bytes bytes = drop (length (case_bytes bytes) + 1) bytes
 
 -- the records of the log, of which the first is its header
 abbrev pub rows_in : List ℕ → List Record
-rows_in bytes = records_of (log_text bytes)
+rows_in bytes = records_of (log_bytes bytes)
 
 -- ---- refusals
 
 -- the case as which the first line is accepted, or its first refusal; an input of more than 16,777,216 bytes is too long
 abbrev pub case_before_log : List ℕ → Result Spelled AcceptStop
-case_before_log bytes = if nat_le (length bytes) 16777216 then case_accepted (case_text bytes) else Err (accept.Case stop.TooLong)
+case_before_log bytes = if nat_le (length bytes) 16777216 then case_accepted (case_bytes bytes) else Err (accept.Case stop.TooLong)
 
 -- why an input is refused: for its case, or since the record of this number is the first bad one of its log
 pub data InputRefusal : Type 0 where
@@ -76,7 +76,7 @@ pub record IsRefusedInput (bytes : List ℕ) (had took : Side) (status : Status)
 pub record TellsLog (bytes : List ℕ) (had took : Side) (status : Status) : Type 0 where
   pub case : Spelled
   -- the first line is accepted as the case, and the log behind it has no bad record
-  pub accepts : AcceptsCase (case_text bytes) case
+  pub accepts : AcceptsCase (case_bytes bytes) case
   pub good : first_bad (rows_in bytes) ≡ None
   -- the flat graph of the case
   pub graph : Flat

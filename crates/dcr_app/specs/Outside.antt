@@ -1,8 +1,8 @@
 -- What was read, and what was written of a text that was due.
-use Rattle.std.specs.Prelude.{◌≡◌, ◌≢◌, ◌⊎◌, ℕ, ◌+◌, ◌<◌, ◌≤◌, List, [], length, take, drop, Option, Some, None, IfSome, ⊤}
-use Rattle.std.specs.Io.KnownBytes.{Appends, IsAtEnd}
+use Rattle.std.specs.Prelude.{◌≡◌, ◌≢◌, ◌⊎◌, ℕ, ◌+◌, ◌<◌, ◌≤◌, List, [], length, drop, Option, Some, None, IfSome, ⊤}
+use Rattle.std.specs.Io.KnownBytes.{IsAtEnd}
 use Rattle.dcr_base.specs.Count.{Rose}
-use Rattle.dcr_base.specs.Side.{Side}
+use Rattle.dcr_base.specs.Side.{Adds, Side, Stopped}
 use Rattle.dcr_base.specs.declared.reading.ReadStop.{ReadStop}
 use Rattle.dcr_base.specs.declared.reading.ReadStop.TheVariants as read
 use Rattle.dcr_base.specs.declared.status.Status.{Status}
@@ -47,16 +47,6 @@ LeavesInput (Some limit) left rest has_ended status =
     TookAtMost (limit + 1) left.bytes rest.bytes × (status ≡ Done → has_ended × IsAtEnd rest.bytes) × CountsWhere (status ≡ ReadFault) left.faults rest.faults
 
 -- ---- what was written
-
--- all of a text was written, and no write failed; `had` is what the output had taken before, and `took` what it has taken now
-abbrev pub Adds : List ℕ → Side → Side → Type 0
-Adds text had took = Appends had.bytes took.bytes text × (took.faults ≡ had.faults)
-
--- of a text that was due a front was written, and not all of it
-pub record Stopped (text : List ℕ) (had took : Side) : Type 0 where
-  pub count : ℕ
-  pub fewer : count < length text
-  pub wrote : Appends had.bytes took.bytes (take count text)
 
 -- What the output took where a text was due with one status, and this was the status of the end: all of it with that
 -- status, and a front and not all of it where the output failed or memory ran out. No other status comes.

@@ -2,7 +2,7 @@
 use Rattle.std.specs.Prelude.{◌≡◌, ◌≢◌, ◌⊎◌, ℕ, ◌≤◌, Bool, true, false, IsTrue, List, [], ◌++◌, length, codes, decimal, Option, Some, None, Ok}
 use Rattle.dcr_base.specs.Count.{Rose}
 use Rattle.dcr_base.specs.Disk.{DiskView, IsSteady, LeavesOnly}
-use Rattle.dcr_base.specs.Side.{Side}
+use Rattle.dcr_base.specs.Side.{Adds, Side}
 use Rattle.dcr_base.specs.declared.status.Status.{Status}
 use Rattle.dcr_base.specs.declared.status.Status.TheVariants as named
 use Rattle.dcr_journal.specs.Run.{HasNoFault}
@@ -28,7 +28,7 @@ use Rattle.dcr_report.specs.Report.{report_text}
 use Rattle.dcr_replay.specs.Laws.{IsReport}
 use Rattle.dcr_roles.specs.Accepted.{case_accepted}
 use Rattle.dcr_app.specs.Headline.{IsDueFor, cluster_in, digest_of}
-use Rattle.dcr_app.specs.Outside.{Adds, IsStarved, WereLeft, Wrote}
+use Rattle.dcr_app.specs.Outside.{IsStarved, WereLeft, Wrote}
 use Rattle.dcr_app.specs.Telling.{Telling}
 
 -- ---- after a run
@@ -51,9 +51,9 @@ pub record HasKept {D : Type 0} (view : D → DiskView) (faults : D → ℕ) (di
   pub failed : ¬ HasNoFault J → (faults before ≤ faults after) × Rose (faults before) (faults after)
 
 -- the disk after a run: without a store it is not called
-abbrev pub Keeps : Bool → {D : Type 0} → (D → DiskView) → (D → ℕ) → List ℕ → List TapeEntry → List Entry → D → D → Type 0
-Keeps true view faults digest old J before after = HasKept view faults digest old J before after
-Keeps false view faults digest old J before after = after ≡ before
+abbrev pub KeepsRun : Bool → {D : Type 0} → (D → DiskView) → (D → ℕ) → List ℕ → List TapeEntry → List Entry → D → D → Type 0
+KeepsRun true view faults digest old J before after = HasKept view faults digest old J before after
+KeepsRun false view faults digest old J before after = after ≡ before
 
 -- ---- without a run
 
@@ -81,22 +81,22 @@ pub record StaysSettled {D : Type 0} (view : D → DiskView) (before after : D) 
   pub steady : status ≢ named.DiskFault → IsSteady (view before) → IsSteady (view after)
   pub empty : IsSteady (view before) → (view before).content ≡ [] → LeavesOnly (view before) (view after) IsMaking
 
--- What becomes of the disk of a command with a store, where `told_run` is the run that is told. It has failed where the status says so, and
+-- What becomes of the disk of a command with a store, where `closed_run` is the run that is told. It has failed where the status says so, and
 -- where no run is told only then.
-pub record CallsDisk {D : Type 0} (view : D → DiskView) (faults : D → ℕ) (left : Option (List ℕ)) (before after : D) (status : Status) (told_run : Option Closed) : Type 0 where
+pub record CallsDisk {D : Type 0} (view : D → DiskView) (faults : D → ℕ) (left : Option (List ℕ)) (before after : D) (status : Status) (closed_run : Option Closed) : Type 0 where
   pub never_falls : faults before ≤ faults after
   pub counted : status ≡ named.DiskFault → Rose (faults before) (faults after)
-  pub told : told_run ≡ None → status ≢ named.DiskFault → faults after ≡ faults before
-  pub still : told_run ≡ None → StandsStill view before after
-  pub settled : told_run ≡ None → StaysSettled view before after status
-  pub content : told_run ≡ None → IsTrue (view before).told → KeepsContent left (view before) (view after)
+  pub told : closed_run ≡ None → status ≢ named.DiskFault → faults after ≡ faults before
+  pub still : closed_run ≡ None → StandsStill view before after
+  pub settled : closed_run ≡ None → StaysSettled view before after status
+  pub content : closed_run ≡ None → IsTrue (view before).told → KeepsContent left (view before) (view after)
   -- where the input failed or is refused it is not called
   pub uncalled : (status ≡ named.Refused) ⊎ (status ≡ named.ReadFault) → after ≡ before
 
 -- the same of any command: without a store it is not called
 abbrev pub LeavesDisk : Bool → {D : Type 0} → (D → DiskView) → (D → ℕ) → Option (List ℕ) → D → D → Status → Option Closed → Type 0
-LeavesDisk true view faults left before after status told_run = CallsDisk view faults left before after status told_run
-LeavesDisk false view faults left before after status told_run = after ≡ before
+LeavesDisk true view faults left before after status closed_run = CallsDisk view faults left before after status closed_run
+LeavesDisk false view faults left before after status closed_run = after ≡ before
 
 -- The cause stands in this content, for the case: it is no tape of the case that has sound records, or its first execution
 -- that can't be done, each after those before it, is this one.

@@ -5,6 +5,7 @@ use Rattle.std.specs.List.{All}
 use Rattle.dcr_base.specs.Count.{Rose}
 use Rattle.dcr_base.specs.declared.status.Status.{Status}
 use Rattle.dcr_base.specs.declared.status.Status.TheVariants.{Done, NoMemory, DiskFault, Full, DoorFault}
+use Rattle.dcr_base.specs.Door.{Doors}
 use Rattle.dcr_nest.specs.FlatRelation.{of_atoms}
 use Rattle.dcr_nest.specs.Nest.{names_of, parents_of}
 use Rattle.dcr_journal.specs.declared.call.Entry.{Entry}
@@ -16,7 +17,6 @@ use Rattle.dcr_serve.specs.Left.{AreAllButFirst}
 use Rattle.dcr_link.specs.Replies.{terms_of}
 use Rattle.dcr_link.specs.declared.end.WorkCause.{WorkCause}
 use Rattle.dcr_link.specs.declared.end.WorkCause.TheVariants as cause
-use Rattle.dcr_serving.specs.Serving.{Tells}
 use Rattle.dcr_serving.specs.declared.end.LinkEnd.{LinkEnd}
 use Rattle.dcr_engine.specs.Ran.{HasCalls}
 use Rattle.dcr_engine.specs.Served.{ServedIn, most_served}
@@ -46,22 +46,6 @@ by_workers workers = record {
 
 -- ---- sessions over the links of a door
 
--- what a door and its links tell
-pub record Doors (B L R : Type 0) : Type 1 where
-  pub links : B → Option (List L)
-  pub is_shut : B → Type 0
-  pub faults : B → ℕ
-  pub tells : Tells L R
-
-abbrev pub doors_of : {B L R : Type 0} → (B → Option (List L)) → (B → Type 0) → (B → ℕ) → (L → Option (List ℕ)) → (L → Option (List ℕ)) → (R → Option (List ℕ)) → (R → Option (List ℕ))
-    → (R → ℕ) → (R → ℕ) → Doors B L R
-doors_of links is_shut faults left taken unread sent failed_reads failed_writes = record {
-  links = links;
-  is_shut = is_shut;
-  faults = faults;
-  tells = record { left = left; taken = taken; unread = unread; sent = sent; failed_reads = failed_reads; failed_writes = failed_writes };
-}
-
 -- the names of the atoms of a case, in order
 abbrev pub atoms_in : Spelled → List (List ℕ)
 atoms_in case = of_atoms (parents_of case.nested.nodes) (names_of case.nested.nodes)
@@ -69,7 +53,7 @@ atoms_in case = of_atoms (parents_of case.nested.nodes) (names_of case.nested.no
 -- So many sessions over the links that the door had before, which have ended so. The order is that of the locks.
 abbrev pub over_links : {D B L R : Type 0} → Doors B L R → B → B → ℕ → List (LinkEnd L R) → Telling D
 over_links doors before after sessions ends = record {
-  sessions = λ first case policy J. ServedIn doors.tells first (terms_of case.cover.names (atoms_in case) policy) (doors.links before) sessions ends J;
+  sessions = λ first case policy J. ServedIn doors.each first (terms_of case.cover.names (atoms_in case) policy) (doors.links before) sessions ends J;
   order = λ J. ⊤;
   full = λ J. length J ≡ most_served;
   door_failed = Rose (doors.faults before) (doors.faults after);
@@ -87,7 +71,7 @@ IsOfLink cause.NoMemory = ⊥
 -- What became of the door over which so many sessions were served: it has left the links that no session had. With `Done`,
 -- and with every other status but `NoMemory` where its count of faults didn't rise, each session had one or the door has
 -- shut. With `Done` no session was cut off, and the door didn't fail.
-pub record LeavesDoor {B L R : Type 0} (doors : Doors B L R) (before after : B) (sessions : ℕ) (ends : List (LinkEnd L R)) (status : Status) : Type 0 where
+pub record LeavesServed {B L R : Type 0} (doors : Doors B L R) (before after : B) (sessions : ℕ) (ends : List (LinkEnd L R)) (status : Status) : Type 0 where
   pub left : AreAllButFirst (doors.links before) (length ends) (doors.links after)
   pub all : (status ≡ Done) ⊎ ((status ≢ NoMemory) × (Rose (doors.faults before) (doors.faults after) → ⊥)) → (length ends ≡ sessions) ⊎ doors.is_shut after
   pub by_links : status ≡ Done → All (λ (end : LinkEnd L R). IsOfLink end.end.cause) ends
@@ -107,22 +91,23 @@ IsUnasked before after ends = (after ≡ before) × (ends ≡ [])
 
 -- what became of the door over which so many sessions were to be served: where no run is told, it was not asked
 abbrev pub LeavesWith : {B L R : Type 0} → Doors B L R → ℕ → Option Closed → B → B → List (LinkEnd L R) → Status → Type 0
-LeavesWith doors sessions (Some closed) before after ends status = LeavesDoor doors before after sessions ends status
+LeavesWith doors sessions (Some closed) before after ends status = LeavesServed doors before after sessions ends status
 LeavesWith doors sessions None before after ends status = IsUnasked before after ends
 
 -- the same of either way: without sessions over links it was not asked
 abbrev pub LeavesBy : {B L R : Type 0} → Doors B L R → Way → Option Closed → B → B → List (LinkEnd L R) → Status → Type 0
-LeavesBy doors (Serve sessions workers) told_run before after ends status = LeavesWith doors sessions told_run before after ends status
-LeavesBy doors (Run workers) told_run before after ends status = IsUnasked before after ends
+LeavesBy doors (Serve sessions workers) closed_run before after ends status = LeavesWith doors sessions closed_run before after ends status
+LeavesBy doors (Run workers) closed_run before after ends status = IsUnasked before after ends
 
 -- the same of any command: without sessions over links it was not asked
-abbrev pub Leaves : {B L R : Type 0} → Doors B L R → Option Command → Option Closed → B → B → List (LinkEnd L R) → Status → Type 0
-Leaves doors (Some (asked.Serve sessions workers store)) told_run before after ends status = LeavesWith doors sessions told_run before after ends status
-Leaves doors command told_run before after ends status = IsUnasked before after ends
+abbrev pub LeavesDoor : {B L R : Type 0} → Doors B L R → Option Command → Option Closed → B → B → List (LinkEnd L R) → Status → Type 0
+LeavesDoor doors (Some (asked.Serve sessions workers store)) closed_run before after ends status = LeavesWith doors sessions closed_run before after ends status
+LeavesDoor doors command closed_run before after ends status = IsUnasked before after ends
 
 -- ---- the status of a report
 
--- The status with which the report of a history is due, where `fine` is that no execution failed: the first of these.
+-- The status with which the report of a history is due, where `fine` is that no execution failed: the first of these that holds. With
+-- `Done` the door hasn't failed either (`LeavesServed`).
 pub data IsDueBy (fine full failed : Type 0) (due : Status) : Type 0 where
   disk_failed : (fine → ⊥) → due ≡ DiskFault → IsDueBy fine full failed due
   is_full : fine → full → due ≡ Full → IsDueBy fine full failed due

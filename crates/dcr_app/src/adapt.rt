@@ -1,7 +1,6 @@
 // The command `adapt`.
 ghost use Rattle.std.specs.Prelude.{◌≡◌, ◌≢◌, ◌⊎◌, ◌<◌, ◌≤◌, ◌++◌, codes, decimal, List, ℕ, length, map, IfOk, IfSome};
 ghost use Rattle.std.specs.List.{All};
-ghost use Rattle.dcr_base.specs.Side.{side};
 ghost use Rattle.dcr_graph.specs.Projection.{HasRoom};
 ghost use Rattle.dcr_json.specs.Built.{case_of, IsCase};
 ghost use Rattle.dcr_json.specs.declared.case.Case.{Case};
@@ -38,7 +37,7 @@ pub(crate) fn adapt<O: Sink, D: Disk + Send, G: Gate + Drop + Sync, R: Threads +
     gate: &G,
 ) -> (Answer, D)
     requires { length bytes.now ≤ 16777216 }
-    ensures answers { AnswersStages bytes.now (side (O.taken output.old) (O.write_faults output.old)) (side (O.taken output.new) (O.write_faults output.new))
+    ensures answers { AnswersStages bytes.now (O.takes output.old) (O.takes output.new)
         result.0.status result.0.closed }
     ensures disk { result.1 ≡ disk }
 {
@@ -79,7 +78,7 @@ fn run_stages<O: Sink, D: Disk + Send, G: Gate + Drop + Sync, R: Threads + Wait 
     requires case { IsCase case.now }
     requires rest { All IsCase rest.now }
     requires room { HasRoom (length case.now.graph.names) opening.now }
-    ensures runs { RunsStages (stages_from (case_of case.now) opening.now (map case_of rest.now)) before (side (O.taken output.old) (O.write_faults output.old)) (side (O.taken output.new) (O.write_faults output.new))
+    ensures runs { RunsStages (stages_from (case_of case.now) opening.now (map case_of rest.now)) before (O.takes output.old) (O.takes output.new)
         result.0.status result.0.closed }
     ensures disk { result.1 ≡ disk }
 {
@@ -148,8 +147,8 @@ fn run_stage<D: Disk + Send, G: Gate + Drop + Sync, R: Threads + Wait + Sync>(
 
 // Tells why the lines of a text are no stages. Nothing is written where it is want of memory.
 fn refuse_stages<O: Sink>(alloc: Global, output: &mut O, stop: &StageStop) -> Status
-    ensures { IsStarved result (side (O.taken output.old) (O.write_faults output.old)) (side (O.taken output.new) (O.write_faults output.new))
-        ⊎ ((stop.now ≢ StageStop.NoMemory) × Wrote Status.Refused (stage_line stop.now) result (side (O.taken output.old) (O.write_faults output.old)) (side (O.taken output.new) (O.write_faults output.new))) }
+    ensures { IsStarved result (O.takes output.old) (O.takes output.new)
+        ⊎ ((stop.now ≢ StageStop.NoMemory) × Wrote Status.Refused (stage_line stop.now) result (O.takes output.old) (O.takes output.new)) }
 {
     if let StageStop::NoMemory = stop {
         return Status::NoMemory;

@@ -1,6 +1,5 @@
 // The command `nodes`.
 ghost use Rattle.std.specs.Prelude.{◌≡◌, List, ℕ, Ok};
-ghost use Rattle.dcr_base.specs.Side.{side};
 ghost use Rattle.dcr_json.specs.Built.{case_of, IsCase};
 ghost use Rattle.dcr_roles.specs.Accepted.{case_accepted};
 ghost use Rattle.dcr_app.specs.Answers.{AnswersApart};
@@ -23,7 +22,7 @@ pub(crate) fn apart<O: Sink>(
     bytes: &[u8],
     output: &mut O,
 ) -> (Answer, Option<World>)
-    ensures { AnswersApart bytes.now (side (O.taken output.old) (O.write_faults output.old)) (side (O.taken output.new) (O.write_faults output.new))
+    ensures { AnswersApart bytes.now (O.takes output.old) (O.takes output.new)
         result.0.status result.0.closed result.1 }
 {
     match read_accepted(alloc, bytes) {
@@ -41,7 +40,7 @@ fn apart_case<O: Sink>(
 ) -> (Answer, Option<World>)
     requires { IsCase case.now }
     ensures { (bytes : List ℕ) → case_accepted bytes ≡ Ok (case_of case.now)
-        → AnswersApart bytes (side (O.taken output.old) (O.write_faults output.old)) (side (O.taken output.new) (O.write_faults output.new))
+        → AnswersApart bytes (O.takes output.old) (O.takes output.new)
         result.0.status result.0.closed result.1 }
 {
     // What the bytes of a case say, and that the told run is a run of the graph with the sessions' calls alone.

@@ -1,11 +1,10 @@
 ghost use Rattle.std.specs.Prelude.{◌≡◌, ◌≤◌, length, Some};
 ghost use Rattle.dcr_base.specs.Count.{Rose};
-ghost use Rattle.dcr_base.specs.Side.{side};
 ghost use Rattle.dcr_app.specs.Answers.{Answers, AnswersBytes, EndsAs, IsConverse, IsHeadline, IsUntold, Says, is_stored};
 ghost use Rattle.dcr_app.specs.Command.{HasNumbers, IsReading, command_in};
 ghost use Rattle.dcr_app.specs.Outside.{CountsWhere, FromInput, IsUnread, LeavesInput, limit_in, most_bytes};
 ghost use Rattle.dcr_app.specs.Stored.{LeavesDisk};
-ghost use Rattle.dcr_app.specs.Telling.{Leaves, doors_of};
+ghost use Rattle.dcr_app.specs.Telling.{LeavesDoor};
 
 use crate::adapt::adapt;
 use crate::apart::apart;
@@ -79,8 +78,8 @@ pub struct End<B: Door, D> {
 /// exactly where a read failed (`input`), and then nothing was written; `WriteFault` exactly where a write of the output failed
 /// (`output`), and then a front of what was to be written was, and not all of it. `DiskFault` comes where a call of the disk
 /// failed (`disk`): with a run, which the failed execution ends and whose report was written; or before its first call, with
-/// nothing written. `Full` comes only in `serve`, exactly where the history has 200,000 entries, and `DoorFault` only there,
-/// where the door failed (`door`); the report was written. What is said of a run that is told holds with every status. Where
+/// nothing written. `Full` comes only in `serve`, where the history has 200,000 entries and nothing else failed, and `DoorFault`
+/// only there, where the door failed (`door`); the report was written. What is said of a run that is told holds with every status. Where
 /// none is told, the disk stands for what it stood for, and the door was not asked.
 ///
 /// It waits for its workers, they for each other's locks, and in `serve` for the door and for what is asked over its links.
@@ -101,22 +100,19 @@ pub fn dcr<
     disk: D,
     gate: G,
 ) -> End<B, D>
-    ensures headline { IsHeadline D.view D.faults (doors_of B.links B.is_shut B.faults B.Link.left B.Link.taken B.Link.Rest.unread B.Link.Rest.sent
-        B.Link.Rest.failed_reads B.Link.Rest.failed_writes)
-        (command_in words.now) door disk (I.left input.old) (I.has_ended input.new) (side (O.taken output.old) (O.write_faults output.old)) (side (O.taken output.new) (O.write_faults output.new)) result }
-    ensures answers { Answers D.view D.faults (doors_of B.links B.is_shut B.faults B.Link.left B.Link.taken B.Link.Rest.unread B.Link.Rest.sent
-        B.Link.Rest.failed_reads B.Link.Rest.failed_writes)
-        (command_in words.now) door disk (I.left input.old) (I.has_ended input.new) (side (O.taken output.old) (O.write_faults output.old)) (side (O.taken output.new) (O.write_faults output.new)) result }
-    ensures says { Says (command_in words.now) (D.view disk) (D.view result.disk) (I.left input.old) (side (O.taken output.old) (O.write_faults output.old)) (side (O.taken output.new) (O.write_faults output.new)) result.closed result.status }
-    ensures converse { IsConverse (command_in words.now) (I.left input.old) result.closed }
-    ensures ends { EndsAs (command_in words.now) (D.view disk) (I.left input.old) (Rose (I.read_faults input.old) (I.read_faults input.new))
-        (Rose (O.write_faults output.old) (O.write_faults output.new)) (Rose (D.faults disk) (D.faults result.disk)) (Rose (B.faults door) (B.faults result.door)) result.status }
-    ensures input { LeavesInput (limit_in (command_in words.now)) (side (I.left input.old) (I.read_faults input.old)) (side (I.left input.new) (I.read_faults input.new))
+    ensures headline { IsHeadline D.view D.faults B.tells
+        (command_in words.now) door disk (I.gives input.old).bytes (I.has_ended input.new) (O.takes output.old) (O.takes output.new) result }
+    ensures answers { Answers D.view D.faults B.tells
+        (command_in words.now) door disk (I.gives input.old).bytes (I.has_ended input.new) (O.takes output.old) (O.takes output.new) result }
+    ensures says { Says (command_in words.now) (D.view disk) (D.view result.disk) (I.gives input.old).bytes (O.takes output.old) (O.takes output.new) result.closed result.status }
+    ensures converse { IsConverse (command_in words.now) (I.gives input.old).bytes result.closed }
+    ensures ends { EndsAs (command_in words.now) (D.view disk) (I.gives input.old).bytes (Rose (I.gives input.old).faults (I.gives input.new).faults)
+        (Rose (O.takes output.old).faults (O.takes output.new).faults) (Rose (D.faults disk) (D.faults result.disk)) (Rose (B.tells.faults door) (B.tells.faults result.door)) result.status }
+    ensures input { LeavesInput (limit_in (command_in words.now)) (I.gives input.old) (I.gives input.new)
         (I.has_ended input.new) result.status }
-    ensures output { CountsWhere (result.status ≡ Status.WriteFault) (O.write_faults output.old) (O.write_faults output.new) }
-    ensures disk { LeavesDisk (is_stored (command_in words.now)) D.view D.faults (I.left input.old) disk result.disk result.status result.closed }
-    ensures door { Leaves (doors_of B.links B.is_shut B.faults B.Link.left B.Link.taken B.Link.Rest.unread B.Link.Rest.sent
-        B.Link.Rest.failed_reads B.Link.Rest.failed_writes)
+    ensures output { CountsWhere (result.status ≡ Status.WriteFault) (O.takes output.old).faults (O.takes output.new).faults }
+    ensures disk { LeavesDisk (is_stored (command_in words.now)) D.view D.faults (I.gives input.old).bytes disk result.disk result.status result.closed }
+    ensures door { LeavesDoor B.tells
         (command_in words.now) result.closed door result.door result.ends.items result.status }
 {
     // What the bytes of a case say, which run is the told one, what a content stands for, and what a verdict means.
@@ -148,14 +144,12 @@ fn answer<
     disk: D,
     gate: G,
 ) -> End<B, D>
-    ensures answers { Answers D.view D.faults (doors_of B.links B.is_shut B.faults B.Link.left B.Link.taken B.Link.Rest.unread B.Link.Rest.sent
-        B.Link.Rest.failed_reads B.Link.Rest.failed_writes)
-        (command_in words.now) door disk (I.left input.old) (I.has_ended input.new) (side (O.taken output.old) (O.write_faults output.old)) (side (O.taken output.new) (O.write_faults output.new)) result }
-    ensures input { LeavesInput (limit_in (command_in words.now)) (side (I.left input.old) (I.read_faults input.old)) (side (I.left input.new) (I.read_faults input.new))
+    ensures answers { Answers D.view D.faults B.tells
+        (command_in words.now) door disk (I.gives input.old).bytes (I.has_ended input.new) (O.takes output.old) (O.takes output.new) result }
+    ensures input { LeavesInput (limit_in (command_in words.now)) (I.gives input.old) (I.gives input.new)
         (I.has_ended input.new) result.status }
-    ensures disk { LeavesDisk (is_stored (command_in words.now)) D.view D.faults (I.left input.old) disk result.disk result.status result.closed }
-    ensures door { Leaves (doors_of B.links B.is_shut B.faults B.Link.left B.Link.taken B.Link.Rest.unread B.Link.Rest.sent
-        B.Link.Rest.failed_reads B.Link.Rest.failed_writes)
+    ensures disk { LeavesDisk (is_stored (command_in words.now)) D.view D.faults (I.gives input.old).bytes disk result.disk result.status result.closed }
+    ensures door { LeavesDoor B.tells
         (command_in words.now) result.closed door result.door result.ends.items result.status }
 {
     match command_of(words) {
@@ -203,15 +197,13 @@ fn read_input<
     requires numbers { HasNumbers command }
     requires reads { IsReading command }
     ensures reads { IsReading command }
-    ensures answers { FromInput (most_bytes command) (I.left input.old) (I.has_ended input.new) (side (O.taken output.old) (O.write_faults output.old)) (side (O.taken output.new) (O.write_faults output.new)) result.status (IsUntold result)
-        (λ bytes. AnswersBytes D.view D.faults (doors_of B.links B.is_shut B.faults B.Link.left B.Link.taken B.Link.Rest.unread B.Link.Rest.sent
-        B.Link.Rest.failed_reads B.Link.Rest.failed_writes)
-        command door disk bytes (side (O.taken output.old) (O.write_faults output.old)) (side (O.taken output.new) (O.write_faults output.new)) result) }
-    ensures input { LeavesInput (Some (most_bytes command)) (side (I.left input.old) (I.read_faults input.old)) (side (I.left input.new) (I.read_faults input.new))
+    ensures answers { FromInput (most_bytes command) (I.gives input.old).bytes (I.has_ended input.new) (O.takes output.old) (O.takes output.new) result.status (IsUntold result)
+        (λ bytes. AnswersBytes D.view D.faults B.tells
+        command door disk bytes (O.takes output.old) (O.takes output.new) result) }
+    ensures input { LeavesInput (Some (most_bytes command)) (I.gives input.old) (I.gives input.new)
         (I.has_ended input.new) result.status }
-    ensures disk { LeavesDisk (is_stored (Some command)) D.view D.faults (I.left input.old) disk result.disk result.status result.closed }
-    ensures door { Leaves (doors_of B.links B.is_shut B.faults B.Link.left B.Link.taken B.Link.Rest.unread B.Link.Rest.sent
-        B.Link.Rest.failed_reads B.Link.Rest.failed_writes)
+    ensures disk { LeavesDisk (is_stored (Some command)) D.view D.faults (I.gives input.old).bytes disk result.disk result.status result.closed }
+    ensures door { LeavesDoor B.tells
         (Some command) result.closed door result.door result.ends.items result.status }
 {
     match read_all(alloc, input, limit_of(command)) {
@@ -229,7 +221,7 @@ fn read_input<
 
 // Tells why an input was not read to its end. Takes no memory.
 fn unread<O: Sink>(stop: ReadStop, output: &mut O) -> Status
-    ensures { IsUnread stop result (side (O.taken output.old) (O.write_faults output.old)) (side (O.taken output.new) (O.write_faults output.new)) }
+    ensures { IsUnread stop result (O.takes output.old) (O.takes output.new) }
 {
     match stop {
         ReadStop::TooLong => say(output, b"refused 1 too-long\n", Status::Refused),
@@ -268,12 +260,10 @@ fn answer_bytes<
     requires numbers { HasNumbers command }
     requires reads { IsReading command }
     requires few { length bytes.now ≤ most_bytes command }
-    ensures answers { AnswersBytes D.view D.faults (doors_of B.links B.is_shut B.faults B.Link.left B.Link.taken B.Link.Rest.unread B.Link.Rest.sent
-        B.Link.Rest.failed_reads B.Link.Rest.failed_writes)
-        command door disk bytes.now (side (O.taken output.old) (O.write_faults output.old)) (side (O.taken output.new) (O.write_faults output.new)) result }
+    ensures answers { AnswersBytes D.view D.faults B.tells
+        command door disk bytes.now (O.takes output.old) (O.takes output.new) result }
     ensures disk { LeavesDisk (is_stored (Some command)) D.view D.faults (Some bytes.now) disk result.disk result.status result.closed }
-    ensures door { Leaves (doors_of B.links B.is_shut B.faults B.Link.left B.Link.taken B.Link.Rest.unread B.Link.Rest.sent
-        B.Link.Rest.failed_reads B.Link.Rest.failed_writes)
+    ensures door { LeavesDoor B.tells
         (Some command) result.closed door result.door result.ends.items result.status }
 {
     match command {

@@ -1,7 +1,6 @@
 // The command `conform`.
 ghost use Rattle.std.specs.Prelude.{◌≡◌, ◌≤◌, ◌<◌, ◌⊎◌, ◌^◌, List, ℕ, length, Ok};
 ghost use Rattle.std.specs.List.{All};
-ghost use Rattle.dcr_base.specs.Side.{side};
 ghost use Rattle.dcr_graph.specs.Projection.{HasRoom};
 ghost use Rattle.dcr_json.specs.Built.{case_of, IsCase};
 ghost use Rattle.dcr_roles.specs.Accepted.{case_accepted};
@@ -9,7 +8,7 @@ ghost use Rattle.dcr_log.specs.declared.trace.Trace.{Trace};
 ghost use Rattle.dcr_conform.specs.Judge.{AreJudged};
 ghost use Rattle.dcr_conform.specs.Lines.{judged_text};
 ghost use Rattle.dcr_conform.specs.declared.judged.Judged.{Judged};
-ghost use Rattle.dcr_app.specs.Logged.{AnswersLog, case_text, log_text, record_line};
+ghost use Rattle.dcr_app.specs.Logged.{AnswersLog, case_bytes, log_bytes, record_line};
 ghost use Rattle.dcr_app.specs.Outside.{IsStarved, Wrote};
 
 use crate::lines::numbered;
@@ -32,7 +31,7 @@ pub(crate) fn conform<O: Sink, R: Threads + Sync>(
     output: &mut O,
 ) -> Status
     requires { length bytes.now ≤ 16777216 }
-    ensures { AnswersLog bytes.now (side (O.taken output.old) (O.write_faults output.old)) (side (O.taken output.new) (O.write_faults output.new)) result }
+    ensures { AnswersLog bytes.now (O.takes output.old) (O.takes output.new) result }
 {
     let (line, log) = parts(bytes);
     match read_accepted(alloc, line) {
@@ -43,8 +42,8 @@ pub(crate) fn conform<O: Sink, R: Threads + Sync>(
 
 // The case file and the log behind it.
 fn parts(bytes: &[u8]) -> (&[u8], &[u8])
-    ensures case { result.0.now ≡ case_text bytes.now }
-    ensures log { result.1.now ≡ log_text bytes.now }
+    ensures case { result.0.now ≡ case_bytes bytes.now }
+    ensures log { result.1.now ≡ log_bytes bytes.now }
     ensures fewer { length result.1.now ≤ length bytes.now }
 {
     match bytes.iter().position(|byte| *byte == b'\n') {
@@ -63,8 +62,8 @@ fn conform_log<O: Sink, R: Threads + Sync>(
 ) -> Status
     requires case { IsCase case.now }
     requires few { length log.now < 2 ^ 32 }
-    ensures { (bytes : List ℕ) → length bytes ≤ 16777216 → case_accepted (case_text bytes) ≡ Ok (case_of case.now) → log.now ≡ log_text bytes
-        → AnswersLog bytes (side (O.taken output.old) (O.write_faults output.old)) (side (O.taken output.new) (O.write_faults output.new)) result }
+    ensures { (bytes : List ℕ) → length bytes ≤ 16777216 → case_accepted (case_bytes bytes) ≡ Ok (case_of case.now) → log.now ≡ log_bytes bytes
+        → AnswersLog bytes (O.takes output.old) (O.takes output.new) result }
 {
     // What the bytes of a case say.
     when_each_refusal_comes();
@@ -86,9 +85,9 @@ fn conform_traces<O: Sink, R: Threads + Sync>(
 ) -> Status
     requires room { HasRoom (length graph.now.names) opening.now }
     requires few { All (λ (trace : Trace). length trace.events < 2 ^ 32) traces.now }
-    ensures { IsStarved result (side (O.taken output.old) (O.write_faults output.old)) (side (O.taken output.new) (O.write_faults output.new))
+    ensures { IsStarved result (O.takes output.old) (O.takes output.new)
         ⊎ ((answers : List Judged) × AreJudged graph.now opening.now traces.now answers
-        × Wrote Status.Done (judged_text graph.now.names traces.now answers) result (side (O.taken output.old) (O.write_faults output.old)) (side (O.taken output.new) (O.write_faults output.new))) }
+        × Wrote Status.Done (judged_text graph.now.names traces.now answers) result (O.takes output.old) (O.takes output.new)) }
 {
     let Ok(judged) = judge_all(rt, alloc, graph, opening, traces) else {
         return Status::NoMemory;
@@ -102,8 +101,8 @@ fn conform_traces<O: Sink, R: Threads + Sync>(
 
 // Tells the first bad record of a log.
 fn refuse_record<O: Sink>(alloc: Global, row: u32, output: &mut O) -> Status
-    ensures { IsStarved result (side (O.taken output.old) (O.write_faults output.old)) (side (O.taken output.new) (O.write_faults output.new))
-        ⊎ Wrote Status.Refused (record_line row) result (side (O.taken output.old) (O.write_faults output.old)) (side (O.taken output.new) (O.write_faults output.new)) }
+    ensures { IsStarved result (O.takes output.old) (O.takes output.new)
+        ⊎ Wrote Status.Refused (record_line row) result (O.takes output.old) (O.takes output.new) }
 {
     match numbered(alloc, b"refused 15 log ", row) {
         Ok(line) => say(output, &line, Status::Refused),

@@ -1,10 +1,8 @@
 // The command `load`.
 ghost use Rattle.std.specs.Prelude.{◌≡◌, ◌+◌, ◌<◌, ◌++◌, decimal, length, IfOk, OnOk};
 ghost use Rattle.std.specs.Option.{ForSome};
-ghost use Rattle.dcr_base.specs.Side.{side};
 ghost use Rattle.dcr_json.specs.Built.{case_of, IsCase};
 ghost use Rattle.dcr_load.specs.Load.{load};
-ghost use Rattle.dcr_replay.specs.EntryLines.{is_done};
 ghost use Rattle.dcr_app.specs.Loaded.{AnswersLoad, count_done, count_other, load_line};
 ghost use Rattle.dcr_app.specs.Outside.{Wrote};
 
@@ -15,9 +13,10 @@ use dcr_base::{Disk, Gate, Sink, Status};
 use dcr_cluster::{Finished, OpenRefused};
 use dcr_engine::{ordered_is_told, run_case};
 use dcr_graph::Graph;
-use dcr_journal::{Closed, Journal, Outcome};
+use dcr_journal::{Closed, Journal};
 use dcr_json::{Case, read_case};
 use dcr_load::{load_text, loads_are_large};
+use dcr_replay::is_done;
 use dcr_report::write_verdict;
 use dcr_set::NoMemory;
 use dcr_tape::Store;
@@ -35,7 +34,7 @@ pub(crate) fn load<O: Sink, D: Disk + Send, G: Gate + Drop + Sync, R: Threads + 
     disk: D,
     gate: G,
 ) -> (Answer, D)
-    ensures answers { AnswersLoad number (side (O.taken output.old) (O.write_faults output.old)) (side (O.taken output.new) (O.write_faults output.new)) result.0.status result.0.closed }
+    ensures answers { AnswersLoad number (O.takes output.old) (O.takes output.new) result.0.status result.0.closed }
     ensures disk { result.1 ≡ disk }
 {
     let Ok(text) = load_text(alloc, number) else {
@@ -60,7 +59,7 @@ fn load_case<O: Sink, D: Disk + Send, G: Gate + Drop + Sync, R: Threads + Wait +
 ) -> (Answer, D)
     requires case { IsCase case.now }
     requires load { case_of case.now ≡ load number }
-    ensures answers { AnswersLoad number (side (O.taken output.old) (O.write_faults output.old)) (side (O.taken output.new) (O.write_faults output.new)) result.0.status result.0.closed }
+    ensures answers { AnswersLoad number (O.takes output.old) (O.takes output.new) result.0.status result.0.closed }
     ensures disk { result.1 ≡ disk }
 {
     // Which run is the told one, and how many calls it has.
@@ -98,7 +97,7 @@ fn tell<O: Sink>(
 ) -> Status
     requires { ForSome closed.now.waits (λ e. e < length graph.now.names) }
     ensures { Wrote Status.Done (load_line number graph.now.names closed.now.history.entries closed.now.waits) result
-        (side (O.taken output.old) (O.write_faults output.old)) (side (O.taken output.new) (O.write_faults output.new)) }
+        (O.takes output.old) (O.takes output.new) }
 {
     let Ok(line) = line_of(alloc, number, graph, closed) else {
         return Status::NoMemory;
@@ -146,14 +145,4 @@ fn count_done(history: &Journal) -> u32
         }
     }
     done
-}
-
-// Whether it is that of an execution that was done.
-fn is_done(outcome: &Outcome) -> bool
-    ensures { result ≡ is_done outcome.now }
-{
-    match outcome {
-        Outcome::Done => true,
-        _ => false,
-    }
 }

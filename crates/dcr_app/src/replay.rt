@@ -1,6 +1,5 @@
 // The command `replay`.
 ghost use Rattle.std.specs.Prelude.{◌≡◌, ◌≤◌, length, IfOk};
-ghost use Rattle.dcr_base.specs.Side.{side};
 ghost use Rattle.dcr_app.specs.Answers.{AnswersReport, verdict_line, verdict_status};
 
 use crate::lines::{numbered, numbered_word};
@@ -13,7 +12,7 @@ use std::alloc::Global;
 /// Tells the verdict of a report.
 pub(crate) fn replay<O: Sink>(alloc: Global, bytes: &[u8], output: &mut O) -> Status
     requires { length bytes.now ≤ 268435456 }
-    ensures { AnswersReport bytes.now (side (O.taken output.old) (O.write_faults output.old)) (side (O.taken output.new) (O.write_faults output.new)) result }
+    ensures { AnswersReport bytes.now (O.takes output.old) (O.takes output.new) result }
 {
     let Ok(verdict) = check_report(alloc, bytes) else {
         return Status::NoMemory;

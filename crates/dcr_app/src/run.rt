@@ -1,6 +1,5 @@
 // The commands that execute a case.
 ghost use Rattle.std.specs.Prelude.{◌≡◌, List, ℕ, Some, None, Ok, true, IfOk, IfErr};
-ghost use Rattle.dcr_base.specs.Side.{side};
 ghost use Rattle.dcr_json.specs.Built.{case_of, IsCase};
 ghost use Rattle.dcr_tape.specs.Found.{CountsFaultOf};
 ghost use Rattle.dcr_tape.specs.Opening.{Refused};
@@ -9,7 +8,7 @@ ghost use Rattle.dcr_app.specs.Answers.{AnswersCase};
 ghost use Rattle.dcr_app.specs.Command.{IsWay};
 ghost use Rattle.dcr_app.specs.Headline.{digest_of};
 ghost use Rattle.dcr_app.specs.Stored.{Begins, LeavesDisk};
-ghost use Rattle.dcr_app.specs.Telling.{LeavesBy, doors_of, told_by};
+ghost use Rattle.dcr_app.specs.Telling.{LeavesBy, told_by};
 
 use crate::End;
 use crate::say::{refuse, refuse_tape};
@@ -44,12 +43,10 @@ pub(crate) fn run<
     gate: G,
 ) -> End<B, D>
     requires way { IsWay way }
-    ensures answers { AnswersCase D.view D.faults (told_by (doors_of B.links B.is_shut B.faults B.Link.left B.Link.taken B.Link.Rest.unread B.Link.Rest.sent
-        B.Link.Rest.failed_reads B.Link.Rest.failed_writes)
-        door result.door result.ends.items way) store disk result.disk bytes.now (side (O.taken output.old) (O.write_faults output.old)) (side (O.taken output.new) (O.write_faults output.new)) result.status result.closed }
+    ensures answers { AnswersCase D.view D.faults (told_by B.tells
+        door result.door result.ends.items way) store disk result.disk bytes.now (O.takes output.old) (O.takes output.new) result.status result.closed }
     ensures disk { LeavesDisk store D.view D.faults (Some bytes.now) disk result.disk result.status result.closed }
-    ensures door { LeavesBy (doors_of B.links B.is_shut B.faults B.Link.left B.Link.taken B.Link.Rest.unread B.Link.Rest.sent
-        B.Link.Rest.failed_reads B.Link.Rest.failed_writes)
+    ensures door { LeavesBy B.tells
         way result.closed door result.door result.ends.items result.status }
     ensures world { result.world ≡ None }
 {
@@ -87,12 +84,10 @@ fn run_accepted<
     requires way { IsWay way }
     requires accepted { IsAccepted accepted.now }
     ensures answers { (bytes : List ℕ) → accepted_in bytes ≡ Ok (both_of accepted.now)
-        → AnswersCase D.view D.faults (told_by (doors_of B.links B.is_shut B.faults B.Link.left B.Link.taken B.Link.Rest.unread B.Link.Rest.sent
-        B.Link.Rest.failed_reads B.Link.Rest.failed_writes)
-        door result.door result.ends.items way) store disk result.disk bytes (side (O.taken output.old) (O.write_faults output.old)) (side (O.taken output.new) (O.write_faults output.new)) result.status result.closed
+        → AnswersCase D.view D.faults (told_by B.tells
+        door result.door result.ends.items way) store disk result.disk bytes (O.takes output.old) (O.takes output.new) result.status result.closed
         × LeavesDisk store D.view D.faults (Some bytes) disk result.disk result.status result.closed }
-    ensures door { LeavesBy (doors_of B.links B.is_shut B.faults B.Link.left B.Link.taken B.Link.Rest.unread B.Link.Rest.sent
-        B.Link.Rest.failed_reads B.Link.Rest.failed_writes)
+    ensures door { LeavesBy B.tells
         way result.closed door result.door result.ends.items result.status }
     ensures world { result.world ≡ None }
 {

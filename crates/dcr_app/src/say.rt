@@ -1,6 +1,5 @@
 // Ends without a run.
 ghost use Rattle.std.specs.Prelude.{◌≡◌, ◌≢◌, ◌⊎◌};
-ghost use Rattle.dcr_base.specs.Side.{side};
 ghost use Rattle.dcr_roles.specs.Accepted.{HadMemory, WantedMemory};
 ghost use Rattle.dcr_app.specs.Outside.{IsDue, IsStarved, Wrote};
 ghost use Rattle.dcr_app.specs.Refusal.{refusal_line};
@@ -17,7 +16,7 @@ use std::alloc::Global;
 /// Writes a line that is due with this status.
 pub(crate) fn say<O: Sink>(output: &mut O, line: &[u8], status: Status) -> Status
     requires { IsDue status }
-    ensures wrote { Wrote status line.now result (side (O.taken output.old) (O.write_faults output.old)) (side (O.taken output.new) (O.write_faults output.new)) }
+    ensures wrote { Wrote status line.now result (O.takes output.old) (O.takes output.new) }
     ensures told { (result ≡ status) ⊎ (result ≡ Status.WriteFault) }
 {
     match write_all(output, line) {
@@ -28,9 +27,9 @@ pub(crate) fn say<O: Sink>(output: &mut O, line: &[u8], status: Status) -> Statu
 
 /// Tells a refusal. Nothing is written where it is want of memory, or where memory could not be had for the line.
 pub(crate) fn refuse<O: Sink>(alloc: Global, output: &mut O, stop: AcceptStop) -> Status
-    ensures told { HadMemory stop → IsStarved result (side (O.taken output.old) (O.write_faults output.old)) (side (O.taken output.new) (O.write_faults output.new))
-        ⊎ Wrote Status.Refused (refusal_line stop) result (side (O.taken output.old) (O.write_faults output.old)) (side (O.taken output.new) (O.write_faults output.new)) }
-    ensures starved { WantedMemory stop → IsStarved result (side (O.taken output.old) (O.write_faults output.old)) (side (O.taken output.new) (O.write_faults output.new)) }
+    ensures told { HadMemory stop → IsStarved result (O.takes output.old) (O.takes output.new)
+        ⊎ Wrote Status.Refused (refusal_line stop) result (O.takes output.old) (O.takes output.new) }
+    ensures starved { WantedMemory stop → IsStarved result (O.takes output.old) (O.takes output.new) }
 {
     match stop {
         AcceptStop::Case {
@@ -49,7 +48,7 @@ pub(crate) fn refuse<O: Sink>(alloc: Global, output: &mut O, stop: AcceptStop) -
 /// Tells why a disk is refused as the tape of a case. Nothing is written where the disk failed or memory ran out, or where
 /// memory could not be had for the line.
 pub(crate) fn refuse_tape<O: Sink>(alloc: Global, output: &mut O, cause: TapeCause) -> Status
-    ensures { EndsFor cause result (side (O.taken output.old) (O.write_faults output.old)) (side (O.taken output.new) (O.write_faults output.new)) }
+    ensures { EndsFor cause result (O.takes output.old) (O.takes output.new) }
 {
     match cause {
         TapeCause::DiskFault => Status::DiskFault,

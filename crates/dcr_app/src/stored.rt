@@ -1,6 +1,5 @@
 // A case that is executed over a store.
 ghost use Rattle.std.specs.Prelude.{◌≡◌, ◌≢◌, ◌≤◌, length, false, IsTrue};
-ghost use Rattle.dcr_base.specs.Side.{side};
 ghost use Rattle.dcr_graph.specs.Cause.{waits};
 ghost use Rattle.dcr_graph.specs.GraphValue.{rules_of};
 ghost use Rattle.dcr_graph.specs.Projection.{HasRoom};
@@ -13,14 +12,14 @@ ghost use Rattle.dcr_report.specs.Report.{report_text};
 ghost use Rattle.dcr_app.specs.Command.{AreSessions, AreWorkers, IsWay};
 ghost use Rattle.dcr_app.specs.Outside.{IsOfReport, Wrote};
 ghost use Rattle.dcr_app.specs.Stored.{EndsOver, disk_in, tape_cause};
-ghost use Rattle.dcr_app.specs.Telling.{IsDueBy, IsUnasked, LeavesBy, LeavesWith, by_workers, doors_of, over_links, told_by};
+ghost use Rattle.dcr_app.specs.Telling.{IsDueBy, IsUnasked, LeavesBy, LeavesWith, by_workers, over_links, told_by};
 
 use crate::End;
 use crate::say::refuse_tape;
 use crate::way::Way;
 use dcr_base::{Disk, Door, Gate, Link, Sink, Status};
 use dcr_cluster::{Finished, OpenCause, OpenRefused};
-use dcr_engine::{CaseServed, CaseUnserved, run_case, serve_case};
+use dcr_engine::{CaseServed, CaseUnserved, MAX_ENTRIES, run_case, serve_case};
 use dcr_journal::{Closed, Outcome};
 use dcr_json::Case;
 use dcr_report::{ReportStop, write_report};
@@ -29,9 +28,6 @@ use dcr_tape::{Store, TapeCause, TapeEntry};
 use std::alloc::Global;
 use std::sync::Wait;
 use std::thread::Threads;
-
-// The most entries of a history whose sessions come over links.
-const MAX_ENTRIES: u32 = 200_000;
 
 /// Executes a case over a store, which has these executions from before, and writes the report.
 pub(crate) fn run_over<
@@ -55,13 +51,11 @@ pub(crate) fn run_over<
     requires accepted { IsAccepted accepted.now }
     requires few_old { length old.now ≤ 1000000 }
     requires begins { MayBegin D.view old.now store }
-    ensures over { EndsOver D.view D.faults (told_by (doors_of B.links B.is_shut B.faults B.Link.left B.Link.taken B.Link.Rest.unread B.Link.Rest.sent
-        B.Link.Rest.failed_reads B.Link.Rest.failed_writes)
+    ensures over { EndsOver D.view D.faults (told_by B.tells
         door result.door result.ends.items way)
-        (case_of accepted.now.case) accepted.now.policy old.now store result.disk (side (O.taken output.old) (O.write_faults output.old)) (side (O.taken output.new) (O.write_faults output.new))
+        (case_of accepted.now.case) accepted.now.policy old.now store result.disk (O.takes output.old) (O.takes output.new)
         result.status result.closed }
-    ensures door { LeavesBy (doors_of B.links B.is_shut B.faults B.Link.left B.Link.taken B.Link.Rest.unread B.Link.Rest.sent
-        B.Link.Rest.failed_reads B.Link.Rest.failed_writes)
+    ensures door { LeavesBy B.tells
         way result.closed door result.door result.ends.items result.status }
     ensures world { result.world ≡ None }
 {
@@ -98,7 +92,7 @@ fn by_workers<
     requires few_old { length old.now ≤ 1000000 }
     requires begins { MayBegin D.view old.now store }
     ensures over { EndsOver D.view D.faults (by_workers workers)
-        (case_of accepted.now.case) accepted.now.policy old.now store result.disk (side (O.taken output.old) (O.write_faults output.old)) (side (O.taken output.new) (O.write_faults output.new))
+        (case_of accepted.now.case) accepted.now.policy old.now store result.disk (O.takes output.old) (O.takes output.new)
         result.status result.closed }
     ensures door { IsUnasked door result.door result.ends.items }
     ensures world { result.world ≡ None }
@@ -164,13 +158,11 @@ fn over_links<
     requires accepted { IsAccepted accepted.now }
     requires few_old { length old.now ≤ 1000000 }
     requires begins { MayBegin D.view old.now store }
-    ensures over { EndsOver D.view D.faults (over_links (doors_of B.links B.is_shut B.faults B.Link.left B.Link.taken B.Link.Rest.unread B.Link.Rest.sent
-        B.Link.Rest.failed_reads B.Link.Rest.failed_writes)
+    ensures over { EndsOver D.view D.faults (over_links B.tells
         door result.door sessions result.ends.items)
-        (case_of accepted.now.case) accepted.now.policy old.now store result.disk (side (O.taken output.old) (O.write_faults output.old)) (side (O.taken output.new) (O.write_faults output.new))
+        (case_of accepted.now.case) accepted.now.policy old.now store result.disk (O.takes output.old) (O.takes output.new)
         result.status result.closed }
-    ensures door { LeavesWith (doors_of B.links B.is_shut B.faults B.Link.left B.Link.taken B.Link.Rest.unread B.Link.Rest.sent
-        B.Link.Rest.failed_reads B.Link.Rest.failed_writes)
+    ensures door { LeavesWith B.tells
         sessions result.closed door result.door result.ends.items result.status }
     ensures world { result.world ≡ None }
 {
@@ -262,7 +254,7 @@ pub(crate) fn report<O: Sink>(
         (after (rules_of case.now.graph) closed.now.opening closed.now.history.entries) }
     requires due { IsOfReport due }
     ensures { Wrote due (report_text case.now.nested case.now.cover closed.now.opening closed.now.history.entries) result
-        (side (O.taken output.old) (O.write_faults output.old)) (side (O.taken output.new) (O.write_faults output.new)) }
+        (O.takes output.old) (O.takes output.new) }
 {
     match write_report(
         alloc,
@@ -297,7 +289,7 @@ fn report_served<O: Sink>(
     ensures wrote { (due : Status) × IsDueBy (EndsWithoutFault closed.now.history.entries) (length closed.now.history.entries ≡ 200000)
         (IsTrue door_failed) due
         × Wrote due (report_text case.now.nested case.now.cover closed.now.opening closed.now.history.entries) result
-        (side (O.taken output.old) (O.write_faults output.old)) (side (O.taken output.new) (O.write_faults output.new)) }
+        (O.takes output.old) (O.takes output.new) }
     ensures wanted { IsTrue no_memory → result ≡ Status.NoMemory }
     ensures unfailed { result ≡ Status.Done → door_failed ≡ false }
 {

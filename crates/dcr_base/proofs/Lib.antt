@@ -1,3 +1,4 @@
+pub mod CountLemmas
 pub mod DiskLemmas
 pub mod FileLemmas
 pub mod Interruptions

@@ -1,6 +1,5 @@
 -- A disk as contracts see it, what each call does to it, and what a crash may leave of it.
-use Rattle.std.specs.Prelude.{◌≡◌, ◌⊎◌, ℕ, ◌+◌, ◌≤◌, max, Bool, IsTrue, List, ◌++◌, length, take, drop, Result, MatchResult}
-use Rattle.dcr_base.specs.Count.{Rose}
+use Rattle.std.specs.Prelude.{◌≡◌, ◌⊎◌, ℕ, ◌+◌, ◌≤◌, max, Bool, IsTrue, List, ◌++◌, length, take, drop}
 
 -- the bytes of a content from an offset on: so many, or as many as there are
 abbrev pub bytes_at : List ℕ → ℕ → ℕ → List ℕ
@@ -81,10 +80,6 @@ pub record Wrote (at : ℕ) (bytes : List ℕ) (old new : DiskView) : Type 0 whe
 pub record Durable (new : DiskView) : Type 0 where
   pub told : IsTrue new.told
   pub only : IsTrue new.honest → Only new.content new.may_leave
-
--- a call counts a fault exactly where it fails
-abbrev pub CountsFault : {T E : Type 0} → Result T E → ℕ → ℕ → Type 0
-CountsFault result old new = MatchResult result (λ _. new ≡ old) (λ _. (old ≤ new) × Rose old new)
 
 -- ---- several calls
 

@@ -1,6 +1,17 @@
--- What a door gives.
+-- What a door tells, and what it gives.
 use Rattle.std.specs.Prelude.{◌≡◌, ℕ, List, [], ◌∷◌, Option, Some, None, Result, Ok, Err, ⊤}
+use Rattle.dcr_base.specs.Link.{IsUnfailed, Links}
 use Rattle.dcr_base.specs.declared.failed.Failed.{Failed}
+
+pub record Doors (B L R : Type 0) : Type 1 where
+  -- the links that are left, in order, where the door tells them
+  pub links : B → Option (List L)
+  -- it is shut, whether it tells its links or not
+  pub is_shut : B → Type 0
+  -- how many times it has failed
+  pub faults : B → ℕ
+  -- what its links tell
+  pub each : Links L R
 
 -- Of the links that were left, where they are told, the first one is given, and the others stay. None is given exactly where
 -- none is left, and a failure takes none.
@@ -16,7 +27,7 @@ HasNoneLeft None = ⊤
 HasNoneLeft (Some left) = left ≡ []
 
 -- a link that is given has counted no fault
-abbrev pub IsFresh : {L : Type 0} → (L → ℕ) → (L → ℕ) → Result (Option L) Failed → Type 0
-IsFresh read_faults write_faults (Ok (Some link)) = (read_faults link ≡ 0) × (write_faults link ≡ 0)
-IsFresh read_faults write_faults (Ok None) = ⊤
-IsFresh read_faults write_faults (Err failed) = ⊤
+abbrev pub IsFresh : {L R : Type 0} → Links L R → Result (Option L) Failed → Type 0
+IsFresh links (Ok (Some link)) = IsUnfailed links link
+IsFresh links (Ok None) = ⊤
+IsFresh links (Err failed) = ⊤

@@ -3,6 +3,7 @@ pub mod Count
 pub mod Disk
 pub mod Door
 pub mod FileDisk
+pub mod Link
 pub mod ReadStop
 pub mod Side
 pub mod Status

@@ -1,5 +1,6 @@
 ghost use Rattle.std.specs.Prelude.{◌≡◌, ◌+◌, ◌-◌, ◌<◌, ◌≤◌, ◌++◌, ℕ, length, drop, IsTrue, IfOk, OnOk, IsErr};
-ghost use Rattle.dcr_base.specs.Disk.{DiskView, Stays, Writes, Wrote, Durable, CountsFault, bytes_at};
+ghost use Rattle.dcr_base.specs.Count.{CountsFault};
+ghost use Rattle.dcr_base.specs.Disk.{DiskView, Stays, Writes, Wrote, Durable, bytes_at};
 
 use crate::Failed;
 

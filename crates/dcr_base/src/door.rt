@@ -1,6 +1,7 @@
-ghost use Rattle.std.specs.Prelude.{◌≡◌, ◌≤◌, ℕ, List, Option, Ok, None, IfOk, IsNone, OnOk, OnErr};
-ghost use Rattle.dcr_base.specs.Count.{Rose};
-ghost use Rattle.dcr_base.specs.Door.{GivesNext, HasNoneLeft, IsFresh};
+ghost use Rattle.std.specs.Prelude.{◌≡◌, Ok, None, IfOk, IsNone};
+ghost use Rattle.dcr_base.specs.Count.{CountsFault};
+ghost use Rattle.dcr_base.specs.Door.{Doors, GivesNext, HasNoneLeft, IsFresh};
+ghost use Rattle.dcr_base.specs.Link.{links_of};
 
 use crate::{Failed, Link};
 
@@ -12,27 +13,22 @@ pub trait Door {
     /// What comes in.
     type Link: Link;
 
-    /// The links that are left, in order, where the door tells them.
-    ghost links: { Self → Option (List Self.Link) };
-
-    /// That it is shut, whether it tells its links or not.
-    ghost is_shut: { Self → Type 0 };
-
-    /// How many times it has failed.
-    ghost faults: { Self → ℕ };
+    /// What it tells: the links that are left, that it is shut, how many times it has failed, and what each link tells.
+    ghost tells: { Doors Self Self.Link Self.Link.Rest };
 
     /// The next link, which has counted no fault. None of a door that is shut. `Failed` comes when the outside fails; no
     /// link is lost by it. It may wait for a link to come.
     fn next(&mut self) -> Result<Option<Self::Link>, Failed>
-        ensures given { GivesNext (links self.old) (links self.new) result }
-        ensures fresh { IsFresh Self.Link.read_faults Self.Link.write_faults result }
-        ensures shuts { result ≡ Ok None → is_shut self.new }
-        ensures stays_shut { is_shut self.old → is_shut self.new }
-        ensures gives_none { is_shut self.old → IfOk result IsNone }
-        ensures never_falls { faults self.old ≤ faults self.new }
-        ensures ok_counts_none { OnOk result (faults self.new ≡ faults self.old) }
-        ensures counted { OnErr result (Rose (faults self.old) (faults self.new)) };
+        ensures given { GivesNext (tells.links self.old) (tells.links self.new) result }
+        ensures fresh { IsFresh tells.each result }
+        ensures shuts { result ≡ Ok None → tells.is_shut self.new }
+        ensures stays_shut { tells.is_shut self.old → tells.is_shut self.new }
+        ensures gives_none { tells.is_shut self.old → IfOk result IsNone }
+        ensures counts { CountsFault result (tells.faults self.old) (tells.faults self.new) };
+
+    /// What it says of its links is what they tell.
+    ghost each_is: { tells.each ≡ links_of Self.Link.gives Self.Link.takes Self.Link.Rest.unread Self.Link.Rest.sent };
 
     /// A door that is shut and tells its links has none left.
-    ghost shut_has_none: { (door : Self) → is_shut door → HasNoneLeft (links door) };
+    ghost shut_has_none: { (door : Self) → tells.is_shut door → HasNoneLeft (tells.links door) };
 }

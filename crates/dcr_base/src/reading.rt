@@ -1,7 +1,6 @@
-ghost use Rattle.std.specs.Prelude.{◌≡◌, ◌≢◌, ◌<◌, ◌≤◌, ◌+◌, ℕ, length, drop, vec_len, Some, IsSome, IfSome, IfOk, OnOk, OnErr};
+ghost use Rattle.std.specs.Prelude.{◌≡◌, ◌<◌, ◌≤◌, ◌+◌, ℕ, length, drop, vec_len, Some, IsSome, IfSome, IfOk, OnOk, OnErr};
 ghost use Rattle.std.specs.Io.KnownBytes.{IsAtEnd};
-ghost use Rattle.dcr_base.specs.Count.{Rose};
-ghost use Rattle.dcr_base.specs.ReadStop.{message_of};
+ghost use Rattle.dcr_base.specs.ReadStop.{CountsRead, message_of};
 ghost use Rattle.dcr_base.specs.declared.reading.ReadStop.TheVariants.{NoMemory};
 
 use crate::{Failed, Source};
@@ -61,23 +60,19 @@ const CHUNK: usize = 4096;
 /// none is tried again. An error leaves the source after the bytes read so far.
 pub fn read_all<S: Source>(alloc: Global, source: &mut S, limit: usize) -> Result<Vec<u8>, ReadStop>
     ensures within { IfOk result (λ bytes. vec_len bytes ≤ limit) }
-    ensures all { IfOk result (λ bytes. IfSome (S.left source.old) (λ left. bytes.items ≡ left)) }
+    ensures all { IfOk result (λ bytes. IfSome (S.gives source.old).bytes (λ left. bytes.items ≡ left)) }
     ensures has_ended { OnOk result (S.has_ended source.new) }
-    ensures ended { OnOk result (IsAtEnd (S.left source.new)) }
+    ensures ended { OnOk result (IsAtEnd (S.gives source.new).bytes) }
 
     ensures too_long { result ≡ Err ReadStop.TooLong
-        → IfSome (S.left source.old) (λ left. limit < length left) }
+        → IfSome (S.gives source.old).bytes (λ left. limit < length left) }
     ensures one_too_many { result ≡ Err ReadStop.TooLong
-        → IfSome (S.left source.old) (λ left. S.left source.new ≡ Some (drop (limit + 1) left)) }
-    ensures read_fault { result ≡ Err ReadStop.ReadFault
-        → Rose (S.read_faults source.old) (S.read_faults source.new) }
-    ensures no_fault { result ≢ Err ReadStop.ReadFault
-        → S.read_faults source.new ≡ S.read_faults source.old }
-    ensures lost { OnErr result (IfSome (S.left source.old)
-        (λ left. (k : ℕ) × (k ≤ limit + 1) × (S.left source.new ≡ Some (drop k left)))) }
+        → IfSome (S.gives source.old).bytes (λ left. (S.gives source.new).bytes ≡ Some (drop (limit + 1) left)) }
+    ensures lost { OnErr result (IfSome (S.gives source.old).bytes
+        (λ left. (k : ℕ) × (k ≤ limit + 1) × ((S.gives source.new).bytes ≡ Some (drop k left)))) }
 
-    ensures told { IsSome (S.left source.old) → IsSome (S.left source.new) }
-    ensures never_falls { S.read_faults source.old ≤ S.read_faults source.new }
+    ensures told { IsSome (S.gives source.old).bytes → IsSome (S.gives source.new).bytes }
+    ensures counts { CountsRead result (S.gives source.old).faults (S.gives source.new).faults }
 {
     let mut bytes = Vec::new(alloc);
     let mut chunk = [0; CHUNK];

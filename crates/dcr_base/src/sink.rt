@@ -1,18 +1,15 @@
-ghost use Rattle.std.specs.Prelude.{◌≡◌, ◌<◌, ◌≤◌, ℕ, List, Option, length, IfOk, OnOk, OnErr};
+ghost use Rattle.std.specs.Prelude.{◌≡◌, ◌<◌, ◌≤◌, length, IfOk};
 ghost use Rattle.std.specs.Io.{WritesAtMost};
 ghost use Rattle.std.specs.Io.KnownBytes.{WriteAppends};
-ghost use Rattle.dcr_base.specs.Count.{Rose};
+ghost use Rattle.dcr_base.specs.Count.{CountsFault};
 ghost use Rattle.dcr_base.specs.Side.{Side};
 
 use crate::Failed;
 
 /// Where bytes go: an output, or one direction of a link.
 pub trait Sink {
-    /// The bytes taken so far, where the sink tells them.
-    ghost taken: { Self → Option (List ℕ) };
-
-    /// How many writes have failed.
-    ghost write_faults: { Self → ℕ };
+    /// What it has taken so far, where the sink tells it, and how many writes have failed.
+    ghost takes: { Self → Side };
 
     /// Where the sink is one direction of a link, what the other one tells. No write changes it.
     ghost source_side: { Self → Side };
@@ -21,10 +18,8 @@ pub trait Sink {
     /// `Failed` comes when the outside fails; it takes no byte.
     fn write(&mut self, bytes: &[u8]) -> Result<usize, Failed>
         ensures within { WritesAtMost result bytes.now }
-        ensures appended { WriteAppends (taken self.old) (taken self.new) result bytes.now }
+        ensures appended { WriteAppends (takes self.old).bytes (takes self.new).bytes result bytes.now }
         ensures at_least_one { 0 < length bytes.now → IfOk result (λ n. 1 ≤ n) }
-        ensures never_falls { write_faults self.old ≤ write_faults self.new }
-        ensures ok_counts_none { OnOk result (write_faults self.new ≡ write_faults self.old) }
-        ensures counted { OnErr result (Rose (write_faults self.old) (write_faults self.new)) }
+        ensures counts { CountsFault result (takes self.old).faults (takes self.new).faults }
         ensures apart { source_side self.new ≡ source_side self.old };
 }

@@ -3,6 +3,7 @@ ghost use Rattle.std.specs.Io.{WritesAtMost};
 ghost use Rattle.std.specs.Io.Iter.{u64_saturate};
 ghost use Rattle.std.specs.Io.KnownBytes.{WriteAppends};
 ghost use Rattle.dcr_base.specs.Asked.{ToldWrite};
+ghost use Rattle.dcr_base.specs.Count.{CountsFault};
 
 use crate::{Failed, Sink, WriteOnce};
 use std::io::ErrorKind;
@@ -21,11 +22,11 @@ pub struct StdSink<W> {
 
 impl<W: WriteOnce> StdSink<W> {
     ghost use Rattle.dcr_base.specs.StdSink.{writer_of};
+    ghost use Rattle.dcr_base.specs.Side.{side};
 
     /// A sink that hands on to this writer.
     pub fn new(writer: W) -> StdSink<W>
-        ensures taken { ⟦<StdSink<W> as Sink>⟧.taken result ≡ W.taken writer }
-        ensures no_faults { ⟦<StdSink<W> as Sink>⟧.write_faults result ≡ 0 }
+        ensures takes { ⟦<StdSink<W> as Sink>⟧.takes result ≡ side (W.taken writer) 0 }
     {
         StdSink { writer, faults: 0 }
     }
@@ -39,12 +40,10 @@ impl<W: WriteOnce> StdSink<W> {
 }
 
 impl<W: WriteOnce> Sink for StdSink<W> {
-    ghost use Rattle.dcr_base.specs.Side.{no_side};
+    ghost use Rattle.dcr_base.specs.Side.{no_side, side};
     ghost use Rattle.dcr_base.specs.StdSink.{writer_of, failed_writes};
 
-    ghost taken = { λ sink. W.taken (writer_of sink) };
-
-    ghost write_faults = { failed_writes };
+    ghost takes = { λ sink. side (W.taken (writer_of sink)) (failed_writes sink) };
 
     ghost source_side = { λ _. no_side };
 
@@ -53,10 +52,9 @@ impl<W: WriteOnce> Sink for StdSink<W> {
         ensures appended { WriteAppends (W.taken (writer_of self.old))
             (W.taken (writer_of self.new)) result bytes.now }
         ensures at_least_one { 0 < length bytes.now → IfOk result (λ n. 1 ≤ n) }
-        ensures never_falls { failed_writes self.old ≤ failed_writes self.new }
 
         // The count is exact.
-        ensures ok_counts_none { OnOk result (failed_writes self.new ≡ failed_writes self.old) }
+        ensures counts { CountsFault result (failed_writes self.old) (failed_writes self.new) }
         ensures err_counts_one { OnErr result
             (failed_writes self.new ≡ u64_saturate (failed_writes self.old + 1)) }
 

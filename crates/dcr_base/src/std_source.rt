@@ -3,6 +3,7 @@ ghost use Rattle.std.specs.Io.{ReadsAtMost};
 ghost use Rattle.std.specs.Io.Iter.{u64_saturate};
 ghost use Rattle.std.specs.Io.KnownBytes.{ReadConsumes};
 ghost use Rattle.dcr_base.specs.Asked.{ToldRead};
+ghost use Rattle.dcr_base.specs.Count.{CountsFault};
 
 use crate::{Failed, ReadOnce, Source};
 use std::io::ErrorKind;
@@ -23,11 +24,11 @@ pub struct StdSource<R> {
 
 impl<R: ReadOnce> StdSource<R> {
     ghost use Rattle.dcr_base.specs.StdSource.{reader_of, HasEnded};
+    ghost use Rattle.dcr_base.specs.Side.{side};
 
     /// A source of what this reader gives from here on.
     pub fn new(reader: R) -> StdSource<R>
-        ensures left { ⟦<StdSource<R> as Source>⟧.left result ≡ R.left reader }
-        ensures no_faults { ⟦<StdSource<R> as Source>⟧.read_faults result ≡ 0 }
+        ensures gives { ⟦<StdSource<R> as Source>⟧.gives result ≡ side (R.left reader) 0 }
         ensures open { HasEnded result → ⊥ }
     {
         StdSource {
@@ -46,14 +47,12 @@ impl<R: ReadOnce> StdSource<R> {
 }
 
 impl<R: ReadOnce> Source for StdSource<R> {
-    ghost use Rattle.dcr_base.specs.Side.{no_side};
+    ghost use Rattle.dcr_base.specs.Side.{no_side, side};
     ghost use Rattle.dcr_base.specs.StdSource.{reader_of, HasEnded, left_of, left_at_end, failed_reads};
 
-    ghost left = { left_of R.left };
+    ghost gives = { λ source. side (left_of R.left source) (failed_reads source) };
 
     ghost has_ended = { HasEnded };
-
-    ghost read_faults = { failed_reads };
 
     ghost sink_side = { λ _. no_side };
 
@@ -64,10 +63,9 @@ impl<R: ReadOnce> Source for StdSource<R> {
         ensures ends { result ≡ Ok 0 → 0 < length buf.new → HasEnded self.new }
         ensures stays_ended { HasEnded self.old → HasEnded self.new }
         ensures gives_none { HasEnded self.old → IfOk result (λ n. n ≡ 0) }
-        ensures never_falls { failed_reads self.old ≤ failed_reads self.new }
 
         // The count is exact.
-        ensures ok_counts_none { OnOk result (failed_reads self.new ≡ failed_reads self.old) }
+        ensures counts { CountsFault result (failed_reads self.old) (failed_reads self.new) }
         ensures err_counts_one { OnErr result
             (failed_reads self.new ≡ u64_saturate (failed_reads self.old + 1)) }
 

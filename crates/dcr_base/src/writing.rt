@@ -1,7 +1,7 @@
-ghost use Rattle.std.specs.Prelude.{◌≡◌, ◌<◌, ◌≤◌, ◌++◌, Some, codes, length, take, IfErr, OnOk, OnErr};
+ghost use Rattle.std.specs.Prelude.{◌≡◌, ◌<◌, ◌++◌, Some, codes, length, take, IfErr, OnOk};
 ghost use Rattle.std.specs.Fmt.{decimal};
 ghost use Rattle.std.specs.Io.KnownBytes.{Appends};
-ghost use Rattle.dcr_base.specs.Count.{Rose};
+ghost use Rattle.dcr_base.specs.Count.{CountsFault};
 
 use crate::{Failed, Sink};
 use std::error::Error;
@@ -28,13 +28,11 @@ impl Error for WriteFault {}
 /// Writes all the bytes. It takes no memory. `WriteFault` comes exactly where a write failed; the
 /// sink then has the first `written` bytes and no more. What is read beside it stays as it was.
 pub fn write_all<O: Sink>(sink: &mut O, bytes: &[u8]) -> Result<(), WriteFault>
-    ensures all { OnOk result (Appends (O.taken sink.old) (O.taken sink.new) bytes.now) }
+    ensures all { OnOk result (Appends (O.takes sink.old).bytes (O.takes sink.new).bytes bytes.now) }
     ensures front { IfErr result (λ fault.
-        Appends (O.taken sink.old) (O.taken sink.new) (take fault.written bytes.now)) }
+        Appends (O.takes sink.old).bytes (O.takes sink.new).bytes (take fault.written bytes.now)) }
     ensures not_all { IfErr result (λ fault. fault.written < length bytes.now) }
-    ensures counted { OnErr result (Rose (O.write_faults sink.old) (O.write_faults sink.new)) }
-    ensures ok_counts_none { OnOk result (O.write_faults sink.new ≡ O.write_faults sink.old) }
-    ensures never_falls { O.write_faults sink.old ≤ O.write_faults sink.new }
+    ensures counts { CountsFault result (O.takes sink.old).faults (O.takes sink.new).faults }
     ensures apart { O.source_side sink.new ≡ O.source_side sink.old }
 {
     let mut written = 0;

@@ -16,7 +16,7 @@ use Rattle.dcr_journal.specs.declared.call.Call.TheVariants.{Exec, Look, Enabled
 use Rattle.dcr_journal.specs.declared.call.Entry.{Entry}
 use Rattle.dcr_journal.specs.declared.call.Outcome.{Outcome}
 use Rattle.dcr_journal.specs.declared.call.Outcome.TheVariants.{Done, Faulted}
-use Rattle.dcr_tape.specs.Kept.{Keeps}
+use Rattle.dcr_tape.specs.Kept.{TapeHolds}
 use Rattle.dcr_tape.specs.Tape.{StandsFor}
 use Rattle.dcr_tape.specs.declared.entry.TapeEntry.{TapeEntry}
 use Rattle.dcr_tape.specs.declared.tape.Store.{Store}
@@ -112,7 +112,7 @@ module _ (digest : List ℕ) (old E : List TapeEntry) (enough : length old ≤ l
 
 -- what an append of an execution to a tape leaves, whether it succeeded or failed
 pub record Leaves {D : Type 0} (view : D → DiskView) (tape new : Tape D) (x : TapeEntry) : Type 0 where
-  pub images : (E : List TapeEntry) → Keeps view tape E → IsSteady (view tape.disk)
+  pub images : (E : List TapeEntry) → TapeHolds view tape E → IsSteady (view tape.disk)
       → LeavesOnly (view tape.disk) (view new.disk) (λ c. StandsFor tape.digest E c ⊎ StandsFor tape.digest (E ++ x ∷ []) c)
   pub same : new.digest ≡ tape.digest
 
@@ -120,8 +120,8 @@ pub record Leaves {D : Type 0} (view : D → DiskView) (tape new : Tape D) (x : 
 pub record Appends {D : Type 0} (view : D → DiskView) (faults : D → ℕ) (tape new : Tape D) (x : TapeEntry) : Type 0 where
   pub running : new.stopped ≡ false
   pub renewed : new.unrenewed ≡ None
-  pub keeps : (E : List TapeEntry) → Keeps view tape E → Keeps view new (E ++ x ∷ [])
-  pub steady : (E : List TapeEntry) → Keeps view tape E → IsSteady (view tape.disk) → IsSteady (view new.disk)
+  pub keeps : (E : List TapeEntry) → TapeHolds view tape E → TapeHolds view new (E ++ x ∷ [])
+  pub steady : (E : List TapeEntry) → TapeHolds view tape E → IsSteady (view tape.disk) → IsSteady (view new.disk)
   pub counts : faults new.disk ≡ faults tape.disk
 
 -- where it failed
@@ -256,9 +256,9 @@ module _ {D : Type 0} (view : D → DiskView) (faults : D → ℕ) (old : List T
 pub record Renews {D : Type 0} (view : D → DiskView) (faults : D → ℕ) (tape new : Tape D) : Type 0 where
   pub running : new.stopped ≡ false
   pub renewed : new.unrenewed ≡ None
-  pub keeps : (E : List TapeEntry) → Keeps view tape E → Keeps view new E
-  pub images : (E : List TapeEntry) → Keeps view tape E → IsSteady (view tape.disk) → LeavesOnly (view tape.disk) (view new.disk) (StandsFor tape.digest E)
-  pub steady : (E : List TapeEntry) → Keeps view tape E → IsSteady (view tape.disk) → IsSteady (view new.disk)
+  pub keeps : (E : List TapeEntry) → TapeHolds view tape E → TapeHolds view new E
+  pub images : (E : List TapeEntry) → TapeHolds view tape E → IsSteady (view tape.disk) → LeavesOnly (view tape.disk) (view new.disk) (StandsFor tape.digest E)
+  pub steady : (E : List TapeEntry) → TapeHolds view tape E → IsSteady (view tape.disk) → IsSteady (view new.disk)
   pub same : new.digest ≡ tape.digest
   pub counts : faults new.disk ≡ faults tape.disk
 
@@ -276,7 +276,7 @@ module _ {D : Type 0} (view : D → DiskView) (faults : D → ℕ) (old : List T
   -- over a tape that was renewed
   pub begins_on : (first new : Tape D) → MayBegin view old (On first) → Renews view faults first new → StoreStands view faults (Some (On first)) old [] (On new)
   begins_on first new may renews =
-      let keeps : Keeps view first old = may.1 in
+      let keeps : TapeHolds view first old = may.1 in
       let tried : tried_for old [] ≡ old = tried_is old [] nothing_failed ∙ no_entry in
       record {
         same_case = renews.same;

@@ -8,7 +8,7 @@ use Rattle.dcr_journal.specs.declared.call.Call.TheVariants.{Exec}
 use Rattle.dcr_journal.specs.declared.call.Outcome.{Outcome}
 use Rattle.dcr_journal.specs.declared.call.Outcome.TheVariants.{Done, Faulted}
 use Rattle.dcr_journal.specs.declared.call.Entry.{Entry}
-use Rattle.dcr_tape.specs.Kept.{Keeps}
+use Rattle.dcr_tape.specs.Kept.{TapeHolds}
 use Rattle.dcr_tape.specs.Tape.{StandsFor}
 use Rattle.dcr_tape.specs.declared.entry.TapeEntry.{TapeEntry}
 use Rattle.dcr_tape.specs.declared.tape.Store.{Store}
@@ -51,7 +51,7 @@ pub record StandsForSome (digest : List ℕ) (old executed : List TapeEntry) (co
 pub record GoesOn {D : Type 0} (view : D → DiskView) (faults : D → ℕ) (first : Tape D) (executed : List TapeEntry) (tape : Tape D) : Type 0 where
   pub running : tape.stopped ≡ false
   pub renewed : tape.unrenewed ≡ None
-  pub keeps : Keeps view tape executed
+  pub keeps : TapeHolds view tape executed
   pub steady : IsTrue (view first.disk).honest → IsSteady (view tape.disk)
   pub no_fault : faults tape.disk ≡ faults first.disk
 
@@ -87,7 +87,7 @@ IsTaped first = ⊥
 -- has nothing pending over an honest disk.
 abbrev pub MayBegin : {D : Type 0} → (D → DiskView) → List TapeEntry → Store D → Type 0
 MayBegin view old (Off disk) = Unit {0}
-MayBegin view old (On tape) = (tape.stopped ≡ false) × Keeps view tape old × (IsTrue (view tape.disk).honest → IsSteady (view tape.disk))
+MayBegin view old (On tape) = (tape.stopped ≡ false) × TapeHolds view tape old × (IsTrue (view tape.disk).honest → IsSteady (view tape.disk))
 
 -- an execution may be put on the store's tape, where there is one
 abbrev pub CanKeep : {D : Type 0} → Store D → Type 0

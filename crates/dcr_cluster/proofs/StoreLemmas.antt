@@ -8,7 +8,7 @@ use Rattle.dcr_base.proofs.DiskLemmas.{started, weaker}
 use Rattle.dcr_journal.specs.Run.{HasNoFault}
 use Rattle.dcr_journal.specs.declared.call.Entry.{Entry}
 use Rattle.dcr_journal.specs.declared.call.Outcome.TheVariants.{Faulted}
-use Rattle.dcr_tape.specs.Kept.{Keeps, part_of}
+use Rattle.dcr_tape.specs.Kept.{TapeHolds, part_of}
 use Rattle.dcr_tape.specs.Tape.{StandsFor}
 use Rattle.dcr_tape.specs.declared.entry.TapeEntry.{TapeEntry}
 use Rattle.dcr_tape.specs.declared.stop.RenewStop.{RenewStop}
@@ -24,7 +24,7 @@ use Rattle.dcr_cluster.specs.declared.refused.OpenCause.TheVariants.{NoMemory}
 module _ {D : Type 0} (view : D → DiskView) (faults : D → ℕ) (old : List TapeEntry) where
   -- a renewal that was refused
   pub left_by : (first new : Tape D) (why : RenewStop) → MayBegin view old (On first)
-      → ((E : List TapeEntry) → Keeps view first E → IsSteady (view first.disk) → LeavesOnly (view first.disk) (view new.disk) (StandsFor first.digest E))
+      → ((E : List TapeEntry) → TapeHolds view first E → IsSteady (view first.disk) → LeavesOnly (view first.disk) (view new.disk) (StandsFor first.digest E))
       → (why ≡ stop.NoMemory → new ≡ first) → (why ≡ stop.DiskFault → (faults first.disk ≤ faults new.disk) × Rose (faults first.disk) (faults new.disk))
       → Leaves view faults old (cause_of why) (On first) (On new)
   left_by first new stop.DiskFault may images none counts = let up = counts refl in (λ honest. images old may.1 (may.2 honest), up.0, up.1)

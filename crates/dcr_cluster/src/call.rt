@@ -40,27 +40,29 @@ impl<D: Disk, G: Gate, N: StoreName<D>> Cluster<D, G, N> {
         ensures halted { IfErr result (λ halt. (J : List Entry) × HaltedAfter N.cluster N.first N.capacity J pass.old pass.new halt) }
     {
         let mut told = Outcome::AllDone;
-        match self.call_into(rt, pass, &call, &mut told) {
+        match self.call_into(rt, pass, &call, &mut told, &mut false) {
             Ok(()) => Ok(told),
             Err(halt) => Err(halt),
         }
     }
 
     /// As `call`, with the answer in a place of the caller's, so that a caller of many calls has room for one answer alone.
-    /// Where the call halted, what stands there says nothing.
+    /// Where the call halted, what stands there says nothing. Where a lock was not free at once, `waited` becomes true: it
+    /// says something of speed alone.
     pub fn call_into<R: Wait>(
         &self,
         rt: &R,
         pass: &mut Pass<N>,
         call: &Call,
         told: &mut Outcome,
+        waited: &mut bool,
     ) -> Result<(), Halt>
         requires { IsCall N.cluster call.now }
         ensures answered { OnOk result ((J : List Entry) × AnsweredAfter N.cluster N.first N.capacity J pass.old pass.new call.now told.new) }
         ensures halted { IfErr result (λ halt. (J : List Entry) × HaltedAfter N.cluster N.first N.capacity J pass.old pass.new halt) }
     {
         let mut fronts = self.turn.row();
-        self.make(rt, pass, &mut fronts, call, told)
+        self.make(rt, pass, &mut fronts, call, told, waited)
     }
 
     // Makes the call, with as few locks as it wants.
@@ -71,6 +73,7 @@ impl<D: Disk, G: Gate, N: StoreName<D>> Cluster<D, G, N> {
         fronts: &mut FrontRow<N>,
         call: &Call,
         found: &mut Outcome,
+        waited: &mut bool,
     ) -> Result<(), Halt>
         requires call { IsCall N.cluster call.now }
         requires none { fronts.old ≡ [] }
@@ -78,13 +81,13 @@ impl<D: Disk, G: Gate, N: StoreName<D>> Cluster<D, G, N> {
     {
         let needed = self.needed(call);
         if needed.len() > 1 {
-            if let Some(ended) = self.block(rt, pass, fronts, call, found) {
+            if let Some(ended) = self.block(rt, pass, fronts, call, found, waited) {
                 return ended;
             }
         }
         unask(call, needed, found);
         let mut ended = Ok(());
-        self.gather(rt, pass, fronts, call, needed, found, &mut ended);
+        self.gather(rt, pass, fronts, call, needed, found, &mut ended, waited);
         ended
     }
 
@@ -116,6 +119,7 @@ impl<D: Disk, G: Gate, N: StoreName<D>> Cluster<D, G, N> {
         fronts: &mut FrontRow<N>,
         call: &Call,
         found: &mut Outcome,
+        waited: &mut bool,
     ) -> Option<Result<(), Halt>>
         requires call { IsCall N.cluster call.now }
         requires none { fronts.old ≡ [] }
@@ -125,13 +129,14 @@ impl<D: Disk, G: Gate, N: StoreName<D>> Cluster<D, G, N> {
             return None;
         };
         let (grip, own) = self.cells.lock(rt, first.0).split();
+        *waited |= grip.has_waited();
         if !own.blocks(*e, found) {
             grip.join(own).unlock();
             return None;
         }
         let Cell { site, front } = own;
         self.turn.put_on(fronts, front);
-        let ended = self.commit(rt, pass, fronts, call, found);
+        let ended = self.commit(rt, pass, fronts, call, found, waited);
         let front = self.turn.take_off(fronts, *first, pass);
         grip.join(Cell { site, front }).unlock();
         Some(ended)
@@ -149,6 +154,7 @@ impl<D: Disk, G: Gate, N: StoreName<D>> Cluster<D, G, N> {
         left: &[SiteId],
         found: &mut Outcome,
         ended: &mut Result<(), Halt>,
+        waited: &mut bool,
     )
         requires call { IsCall N.cluster call.now }
         requires sites { sites_of fronts.old ++ left.now ≡ sites_for N.cluster N.turn call.now }
@@ -157,14 +163,15 @@ impl<D: Disk, G: Gate, N: StoreName<D>> Cluster<D, G, N> {
         ensures { Made N.cluster N.first N.capacity N.turn pass.old pass.new fronts.old fronts.new call.now (ending found.new ended.new) }
     {
         let Some((first, rest)) = left.split_first() else {
-            *ended = self.commit(rt, pass, fronts, call, found);
+            *ended = self.commit(rt, pass, fronts, call, found, waited);
             return;
         };
         let (grip, cell) = self.cells.lock(rt, first.0).split();
+        *waited |= grip.has_waited();
         cell.ask(call, found);
         let Cell { mut site, front } = cell;
         self.turn.put_on(fronts, front);
-        self.gather(rt, pass, fronts, call, rest, found, ended);
+        self.gather(rt, pass, fronts, call, rest, found, ended, waited);
         let front = self.turn.take_off(fronts, *first, pass);
         if let Some(e) = done_by(call, found, ended) {
             site.apply(e);
@@ -180,6 +187,7 @@ impl<D: Disk, G: Gate, N: StoreName<D>> Cluster<D, G, N> {
         fronts: &mut FrontRow<N>,
         call: &Call,
         found: &mut Outcome,
+        waited: &mut bool,
     ) -> Result<(), Halt>
         requires call { IsCall N.cluster call.now }
         requires enough { AreEnough N.cluster N.turn call.now (sites_of fronts.old) found.old }
@@ -188,6 +196,7 @@ impl<D: Disk, G: Gate, N: StoreName<D>> Cluster<D, G, N> {
     {
         self.gate.at(rt, pass.session(), pass.made());
         let mut guard = self.turn.lock(rt);
+        *waited |= guard.has_waited();
         guard.meet(pass);
         let ended = enter(&mut guard, pass, fronts, call, found);
         guard.unlock();

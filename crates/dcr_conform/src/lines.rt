@@ -1,12 +1,11 @@
 // The lines that tell how traces are judged, held back and handed on.
 ghost use Rattle.std.specs.Prelude.{◌≡◌, ◌≢◌, ◌<◌, ◌≤◌, ℕ, [], ◌++◌, codes, decimal, length, take, Some, OnOk, IfErr, OnErr};
 ghost use Rattle.std.specs.List.{All};
-ghost use Rattle.std.specs.Io.KnownBytes.{Appends};
-ghost use Rattle.dcr_base.specs.Count.{Rose};
+ghost use Rattle.dcr_base.specs.Side.{Adds, Stopped};
 ghost use Rattle.dcr_journal.specs.Answer.{outcome_of};
 ghost use Rattle.dcr_line.specs.Fits.{FitsOutcome};
 ghost use Rattle.dcr_line.specs.Line.{name_of, outcome_text, spaced};
-ghost use Rattle.dcr_report.specs.Passed.{Passes, StopsWithin};
+ghost use Rattle.dcr_report.specs.Passed.{CountsStop, Passed, StopsWithin};
 ghost use Rattle.dcr_report.specs.Report.{line, lines_text};
 ghost use Rattle.dcr_conform.specs.Judge.{FitsJudged};
 ghost use Rattle.dcr_conform.specs.Lines.{count_line, judged_line, judged_lines, judged_text, judged_words};
@@ -39,17 +38,9 @@ pub fn write_judged<O: Sink>(
 ) -> Result<(), ReportStop>
     requires as_many { length judged.now ≡ length traces.now }
     requires fit { All (FitsJudged (length graph.now.names)) judged.now }
-    ensures all { OnOk result (Appends (O.taken sink.old) (O.taken sink.new)
-        (judged_text graph.now.names traces.now judged.now)) }
-    ensures not_all { OnErr result ((n : ℕ)
-        × (n < length (judged_text graph.now.names traces.now judged.now))
-        × Appends (O.taken sink.old) (O.taken sink.new)
-        (take n (judged_text graph.now.names traces.now judged.now))) }
-    ensures counted { result ≡ Err ReportStop.WriteFault
-        → Rose (O.write_faults sink.old) (O.write_faults sink.new) }
-    ensures no_fault { result ≢ Err ReportStop.WriteFault
-        → O.write_faults sink.new ≡ O.write_faults sink.old }
-    ensures never_falls { O.write_faults sink.old ≤ O.write_faults sink.new }
+    ensures all { OnOk result (Adds (judged_text graph.now.names traces.now judged.now) (O.takes sink.old) (O.takes sink.new)) }
+    ensures not_all { OnErr result (Stopped (judged_text graph.now.names traces.now judged.now) (O.takes sink.old) (O.takes sink.new)) }
+    ensures counts { IfErr result (λ stop. CountsStop stop (O.takes sink.old).faults (O.takes sink.new).faults) }
 {
     let mut held = Vec::new(alloc);
     pass_all(graph, traces, judged, &mut held, sink)?;
@@ -67,15 +58,10 @@ fn pass_all<O: Sink>(
 ) -> Result<(), ReportStop>
     requires as_many { length judged.now ≡ length traces.now }
     requires fit { All (FitsJudged (length graph.now.names)) judged.now }
-    ensures passed { OnOk result (Passes
-        (O.taken sink.old) (O.taken sink.new) held.old.items held.new.items
+    ensures passed { OnOk result (Passed (O.takes sink.old) (O.takes sink.new) held.old.items held.new.items
         (judged_text graph.now.names traces.now judged.now)) }
-    ensures stopped { IfErr result (λ stop. StopsWithin stop
-        (O.taken sink.old) (O.taken sink.new) held.old.items
-        (judged_text graph.now.names traces.now judged.now)
-        (O.write_faults sink.old) (O.write_faults sink.new)) }
-    ensures no_fault { OnOk result (O.write_faults sink.new ≡ O.write_faults sink.old) }
-    ensures never_falls { O.write_faults sink.old ≤ O.write_faults sink.new }
+    ensures stopped { IfErr result (λ stop. StopsWithin stop (O.takes sink.old) (O.takes sink.new) held.old.items
+        (judged_text graph.now.names traces.now judged.now)) }
 {
     pass_traces(graph, traces, judged, held, sink)?;
     put_count(traces.len(), held)?;
@@ -93,15 +79,10 @@ fn pass_traces<O: Sink>(
 ) -> Result<(), ReportStop>
     requires as_many { length judged.now ≡ length traces.now }
     requires fit { All (FitsJudged (length graph.now.names)) judged.now }
-    ensures passed { OnOk result (Passes
-        (O.taken sink.old) (O.taken sink.new) held.old.items held.new.items
+    ensures passed { OnOk result (Passed (O.takes sink.old) (O.takes sink.new) held.old.items held.new.items
         (lines_text (judged_lines graph.now.names traces.now judged.now))) }
-    ensures stopped { IfErr result (λ stop. StopsWithin stop
-        (O.taken sink.old) (O.taken sink.new) held.old.items
-        (lines_text (judged_lines graph.now.names traces.now judged.now))
-        (O.write_faults sink.old) (O.write_faults sink.new)) }
-    ensures no_fault { OnOk result (O.write_faults sink.new ≡ O.write_faults sink.old) }
-    ensures never_falls { O.write_faults sink.old ≤ O.write_faults sink.new }
+    ensures stopped { IfErr result (λ stop. StopsWithin stop (O.takes sink.old) (O.takes sink.new) held.old.items
+        (lines_text (judged_lines graph.now.names traces.now judged.now))) }
 {
     for i in 0..traces.len() {
         pass_trace(graph, &traces[i], judged[i], held, sink)?;
@@ -117,15 +98,10 @@ fn pass_trace<O: Sink>(
     sink: &mut O,
 ) -> Result<(), ReportStop>
     requires { FitsJudged (length graph.now.names) judged }
-    ensures passed { OnOk result (Passes
-        (O.taken sink.old) (O.taken sink.new) held.old.items held.new.items
+    ensures passed { OnOk result (Passed (O.takes sink.old) (O.takes sink.new) held.old.items held.new.items
         (line (judged_line graph.now.names trace.now judged))) }
-    ensures stopped { IfErr result (λ stop. StopsWithin stop
-        (O.taken sink.old) (O.taken sink.new) held.old.items
-        (line (judged_line graph.now.names trace.now judged))
-        (O.write_faults sink.old) (O.write_faults sink.new)) }
-    ensures no_fault { OnOk result (O.write_faults sink.new ≡ O.write_faults sink.old) }
-    ensures never_falls { O.write_faults sink.old ≤ O.write_faults sink.new }
+    ensures stopped { IfErr result (λ stop. StopsWithin stop (O.takes sink.old) (O.takes sink.new) held.old.items
+        (line (judged_line graph.now.names trace.now judged))) }
 {
     put_trace(graph, trace, judged, held)?;
     pass_full(held, sink)
@@ -209,13 +185,8 @@ fn put_count(count: usize, held: &mut Vec<u8>) -> Result<(), NoMemory>
 
 // Hands on what is held, once there is much of it.
 fn pass_full<O: Sink>(held: &mut Vec<u8>, sink: &mut O) -> Result<(), ReportStop>
-    ensures passed { OnOk result (Passes
-        (O.taken sink.old) (O.taken sink.new) held.old.items held.new.items []) }
-    ensures stopped { IfErr result (λ stop. StopsWithin stop
-        (O.taken sink.old) (O.taken sink.new) held.old.items []
-        (O.write_faults sink.old) (O.write_faults sink.new)) }
-    ensures no_fault { OnOk result (O.write_faults sink.new ≡ O.write_faults sink.old) }
-    ensures never_falls { O.write_faults sink.old ≤ O.write_faults sink.new }
+    ensures passed { OnOk result (Passed (O.takes sink.old) (O.takes sink.new) held.old.items held.new.items []) }
+    ensures stopped { IfErr result (λ stop. StopsWithin stop (O.takes sink.old) (O.takes sink.new) held.old.items []) }
 {
     if held.len() > FULL {
         write_all(sink, held)?;

@@ -4,6 +4,7 @@ use Rattle.std.specs.Prelude.{filter, filter_map, slice_get}
 use Rattle.std.specs.List.{enumerate_from, prefix_len}
 use Rattle.std.proofs.lemmas.List.{append_assoc, length-map, length-take, map-append, take-append-drop, take-append-le, take_all}
 use Rattle.std.proofs.lemmas.List.Elements.{filter_map-append}
+use Rattle.dcr_base.specs.Link.{Links}
 use Rattle.dcr_journal.specs.Run.{calls_of}
 use Rattle.dcr_journal.specs.declared.call.Call.{Call}
 use Rattle.dcr_journal.specs.declared.call.Entry.{Entry}
@@ -15,7 +16,7 @@ use Rattle.dcr_link.specs.declared.end.WorkCause.TheVariants.{Ended}
 use Rattle.dcr_link.specs.declared.end.WorkEnd.{WorkEnd}
 use Rattle.dcr_serve.specs.Left.{HasNumber}
 use Rattle.dcr_serving.specs.History.{pass_in}
-use Rattle.dcr_serving.specs.Serving.{IsServedOf, Tells, new_pass}
+use Rattle.dcr_serving.specs.Serving.{IsServedOf, new_pass}
 use Rattle.dcr_serving.specs.declared.end.LinkEnd.{LinkEnd}
 use Rattle.dcr_engine.specs.Served.{HasAsked, calls_asked}
 
@@ -62,7 +63,7 @@ whole_taken xs = take_all (length xs) xs (omega arith)
 one_of : {X : Type 0} (x y : X) → Some x ≡ Some y → x ≡ y
 one_of x y is = cc
 
-module _ {D L R : Type 0} (tells : Tells L R) (first : Option (Store D)) (capacity : ℕ) (terms : Terms) (J : List Entry) (k : ℕ) where
+module _ {D L R : Type 0} (tells : Links L R) (first : Option (Store D)) (capacity : ℕ) (terms : Terms) (J : List Entry) (k : ℕ) where
   abbrev pub mine : List Placed
   mine = placed_of k J
 
@@ -87,5 +88,5 @@ module _ {D L R : Type 0} (tells : Tells L R) (first : Option (Store D)) (capaci
   asked_of links end it = λ all link asked told there left.
       let number : slice_get all k ≡ Some it.link = subst (λ (l : Option (List L)). HasNumber l k it.link) told it.number in
       let same : it.link ≡ link = one_of it.link link (sym number ∙ there) in
-      let wrote = it.served.serves asked (ap tells.left same ∙ left) in
+      let wrote = it.served.serves asked (ap (λ l. (tells.gives l).bytes) same ∙ left) in
       asked_by_served asked wrote.0 _ end.end wrote.2

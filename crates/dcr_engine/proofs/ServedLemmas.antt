@@ -8,6 +8,7 @@ use Rattle.std.proofs.lemmas.List.{get_or-append_right, get_or-drop, get_or-map,
 use Rattle.std.proofs.lemmas.List.FromFn.{get_or-range_with_len, length-map-range_with_len, length-range_with_len}
 use Rattle.std.proofs.lemmas.List.Sums.{sum_by-cons}
 use Rattle.dcr_base.specs.Disk.{DiskView}
+use Rattle.dcr_base.specs.Link.{Links}
 use Rattle.dcr_journal.specs.Run.{made_by}
 use Rattle.dcr_journal.specs.declared.call.Entry.{Entry}
 use Rattle.dcr_journal.specs.declared.closed.Closed.{Closed}
@@ -19,7 +20,7 @@ use Rattle.dcr_cluster.specs.Closing.{IsEnd}
 use Rattle.dcr_link.specs.Replies.{Terms}
 use Rattle.dcr_serve.specs.Left.{numbers_from}
 use Rattle.dcr_serving.specs.History.{pass_in}
-use Rattle.dcr_serving.specs.Serving.{AreServed, IsServedOf, Tells, new_pass}
+use Rattle.dcr_serving.specs.Serving.{AreServed, IsServedOf, new_pass}
 use Rattle.dcr_serving.specs.declared.end.LinkEnd.{LinkEnd}
 use Rattle.dcr_serving.proofs.HistoryLemmas.{session_in}
 use Rattle.dcr_engine.specs.Served.{HasServed, most_served}
@@ -51,7 +52,7 @@ some_made s (entry ∷ H) (suc i) d within is =
     let more = some_made s H i d (omega (arith, within)) is in
     omega (arith, made, more)
 
-module _ {D L R : Type 0} (view : D → DiskView) (faults : D → ℕ) (tells : Tells L R) (c : ClusterId) (turn : TurnId) (first : Option (Store D)) (begun_with : Store D) (capacity : ℕ) (terms : Terms)
+module _ {D L R : Type 0} (view : D → DiskView) (faults : D → ℕ) (tells : Links L R) (c : ClusterId) (turn : TurnId) (first : Option (Store D)) (begun_with : Store D) (capacity : ℕ) (terms : Terms)
     (links : Option (List L)) (passes : List PassValue) (ends : List (LinkEnd L R)) (closed : Closed) (store : Store D) where
   abbrev pub Pair : Type 0
   Pair = PassValue × LinkEnd L R

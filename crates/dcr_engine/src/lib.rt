@@ -8,4 +8,4 @@ mod serve;
 
 pub use laws::ordered_is_told;
 pub use run::run_case;
-pub use serve::{CaseServed, CaseUnserved, serve_case};
+pub use serve::{CaseServed, CaseUnserved, MAX_ENTRIES, serve_case};

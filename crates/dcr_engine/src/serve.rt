@@ -26,8 +26,8 @@ use std::marker::Brand;
 use std::sync::Wait;
 use std::thread::Threads;
 
-// The most entries of a history whose sessions come over links.
-const MOST_SERVED: u32 = 200_000;
+/// The most entries of a history whose sessions come over links.
+pub const MAX_ENTRIES: u32 = 200_000;
 
 /// What came of a case whose sessions were served over links.
 #[derive(Drop)]
@@ -83,17 +83,10 @@ pub fn serve_case<
     requires workers { (0 < workers) × (workers ≤ 64) }
     requires few_old { length old.now ≤ 1000000 }
     requires begins { MayBegin D.view old.now store }
-    ensures served { IfOk result (λ served. HasServed D.view D.faults (record {
-      left = B.Link.left;
-      taken = B.Link.taken;
-      unread = B.Link.Rest.unread;
-      sent = B.Link.Rest.sent;
-      failed_reads = B.Link.Rest.failed_reads;
-      failed_writes = B.Link.Rest.failed_writes;
-    })
-        (cluster_of graph.now cover.now opening.now old.now) store (terms_of cover.now.names graph.now.names policy.now) (B.links door) sessions
+    ensures served { IfOk result (λ served. HasServed D.view D.faults B.tells.each
+        (cluster_of graph.now cover.now opening.now old.now) store (terms_of cover.now.names graph.now.names policy.now) (B.tells.links door) sessions
         served.ends.items served.finished.closed served.finished.store) }
-    ensures door { IfOk result (λ served. DoorEnds B.links B.is_shut B.faults door served.door sessions served.ends.items
+    ensures door { IfOk result (λ served. DoorEnds B.tells door served.door sessions served.ends.items
         served.door_failed served.no_memory) }
     ensures possible { OnOk result (ArePossible (cluster_of graph.now cover.now opening.now old.now) (length old.now)) }
     ensures refused { IfErr result (λ unserved. Refused D.view D.faults (cluster_of graph.now cover.now opening.now old.now) store
@@ -142,17 +135,10 @@ fn in_cluster<
     requires workers { (0 < workers) × (workers ≤ 64) }
     requires store { N.first ≡ Some store }
     requires begins { MayBegin D.view old.now store }
-    ensures served { IfOk result (λ served. HasServed D.view D.faults (record {
-      left = B.Link.left;
-      taken = B.Link.taken;
-      unread = B.Link.Rest.unread;
-      sent = B.Link.Rest.sent;
-      failed_reads = B.Link.Rest.failed_reads;
-      failed_writes = B.Link.Rest.failed_writes;
-    })
-        N.cluster store (terms_of cover.now.names graph.now.names policy.now) (B.links door) N.turn.sessions
+    ensures served { IfOk result (λ served. HasServed D.view D.faults B.tells.each
+        N.cluster store (terms_of cover.now.names graph.now.names policy.now) (B.tells.links door) N.turn.sessions
         served.ends.items served.finished.closed served.finished.store) }
-    ensures door { IfOk result (λ served. DoorEnds B.links B.is_shut B.faults door served.door N.turn.sessions served.ends.items
+    ensures door { IfOk result (λ served. DoorEnds B.tells door served.door N.turn.sessions served.ends.items
         served.door_failed served.no_memory) }
     ensures possible { OnOk result (ArePossible N.cluster (length old.now)) }
     ensures refused { IfErr result (λ unserved. Refused D.view D.faults N.cluster store
@@ -165,7 +151,7 @@ fn in_cluster<
         sites,
         cover,
         opening,
-        MOST_SERVED,
+        MAX_ENTRIES,
         store,
         old,
         gate,

@@ -1,5 +1,6 @@
 ghost use Rattle.std.specs.Prelude.{◌≡◌, ◌≤◌, ◌++◌, [], ◌∷◌, false, length, drop, if◌then◌else◌, IsTrue, IfOk, OnOk};
-ghost use Rattle.dcr_base.specs.Disk.{Stays, Writes, Wrote, Durable, CountsFault, bytes_at, written};
+ghost use Rattle.dcr_base.specs.Count.{CountsFault};
+ghost use Rattle.dcr_base.specs.Disk.{Stays, Writes, Wrote, Durable, bytes_at, written};
 ghost use Rattle.dcr_fakes.specs.CallLog.{no_calls};
 ghost use Rattle.dcr_fakes.specs.DiskLog.{content_after, current};
 ghost use Rattle.dcr_fakes.specs.declared.disk_call.DiskCall.TheVariants.{Len, Read, Sync};

@@ -1,6 +1,6 @@
 ghost use Rattle.std.specs.Prelude.{◌≡◌, ◌≤◌, ◌↔◌, [], Ok, Some, None, IfOk, IsNone, IsErr, OnOk, OnErr};
 ghost use Rattle.std.specs.List.{All};
-ghost use Rattle.dcr_base.specs.Count.{Rose};
+ghost use Rattle.dcr_base.specs.Count.{CountsFault};
 ghost use Rattle.dcr_base.specs.Door.{GivesNext, IsFresh as GivesFresh};
 ghost use Rattle.dcr_fakes.specs.CallLog.{no_calls, counted, faulted, FailsNext};
 ghost use Rattle.dcr_fakes.specs.LinkState.{IsFresh};
@@ -47,27 +47,22 @@ impl MemDoor {
 }
 
 impl Door for MemDoor {
-    ghost use Rattle.std.specs.Prelude.{◌≡◌, [], Some};
+    ghost use Rattle.std.specs.Prelude.{◌≡◌, [], Some, refl};
+    ghost use Rattle.dcr_fakes.specs.LinkState.{mem_links};
 
     type Link = MemLink;
 
-    ghost links = { λ door. Some door.links };
-
-    ghost is_shut = { λ door. door.links ≡ [] };
-
-    ghost faults = { λ door. door.calls.faults };
+    ghost tells = { record { links = λ door. Some door.links; is_shut = λ door. door.links ≡ []; faults = λ door. door.calls.faults; each = mem_links } };
 
     /// The first of the links that are left, and `None` where none is. `Failed` comes exactly at the calls that fail, and
     /// takes no link. It never waits.
     fn next(&mut self) -> Result<Option<MemLink>, Failed>
         ensures given { GivesNext (Some self.old.links) (Some self.new.links) result }
-        ensures fresh { GivesFresh (λ link. link.source.calls.faults) (λ link. link.sink.calls.faults) result }
+        ensures fresh { GivesFresh mem_links result }
         ensures shuts { result ≡ Ok None → self.new.links ≡ [] }
         ensures stays_shut { self.old.links ≡ [] → self.new.links ≡ [] }
         ensures gives_none { self.old.links ≡ [] → IfOk result IsNone }
-        ensures never_falls { self.old.calls.faults ≤ self.new.calls.faults }
-        ensures ok_counts_none { OnOk result (self.new.calls.faults ≡ self.old.calls.faults) }
-        ensures rose { OnErr result (Rose self.old.calls.faults self.new.calls.faults) }
+        ensures counts { CountsFault result self.old.calls.faults self.new.calls.faults }
         ensures fails { IsErr result ↔ FailsNext self.old.calls }
         ensures counted { OnOk result (self.new.calls ≡ counted self.old.calls) }
         ensures failed { OnErr result (self.new.calls ≡ faulted (counted self.old.calls)) }
@@ -77,6 +72,8 @@ impl Door for MemDoor {
         }
         Ok(self.links.pop_front())
     }
+
+    ghost each_is = { refl };
 
     ghost shut_has_none = { λ door shut. shut };
 }

@@ -1,7 +1,7 @@
 ghost use Rattle.std.specs.Prelude.{◌≡◌, ◌+◌, ◌<◌, ◌≤◌, ◌++◌, ◌↔◌, ◌⊎◌, Ok, [], Some, length, take, drop, IsErr, IfOk, OnOk, OnErr};
 ghost use Rattle.std.specs.Io.{ReadsAtMost, WritesAtMost};
 ghost use Rattle.std.specs.Io.KnownBytes.{ReadConsumes, WriteAppends};
-ghost use Rattle.dcr_base.specs.Count.{Rose};
+ghost use Rattle.dcr_base.specs.Count.{CountsFault};
 ghost use Rattle.dcr_fakes.specs.CallLog.{counted, faulted, FailsNext};
 ghost use Rattle.dcr_fakes.specs.SinkState.{fitting, Refuses};
 ghost use Rattle.dcr_fakes.specs.SourceState.{piece_len};
@@ -44,15 +44,13 @@ impl MemLink {
 
 impl Source for MemLink {
     ghost use Rattle.std.specs.Prelude.{◌≡◌, [], Some};
-    ghost use Rattle.dcr_base.specs.Side.{side};
+    ghost use Rattle.dcr_fakes.specs.LinkState.{asked_of, answered_of};
 
-    ghost left = { λ link. Some link.source.left };
+    ghost gives = { asked_of };
 
     ghost has_ended = { λ link. link.source.left ≡ [] };
 
-    ghost read_faults = { λ link. link.source.calls.faults };
-
-    ghost sink_side = { λ link. side (Some link.sink.taken) link.sink.calls.faults };
+    ghost sink_side = { answered_of };
 
     /// As its source reads: `Failed` comes exactly at the reads of the source that fail, and any other read gives the next
     /// bytes, as many as the step, the buffer and the bytes left allow. What is answered stays as it was.
@@ -64,9 +62,7 @@ impl Source for MemLink {
         ensures ends { result ≡ Ok 0 → 0 < length buf.new → self.new.source.left ≡ [] }
         ensures stays_ended { self.old.source.left ≡ [] → self.new.source.left ≡ [] }
         ensures gives_none { self.old.source.left ≡ [] → IfOk result (λ n. n ≡ 0) }
-        ensures never_falls { self.old.source.calls.faults ≤ self.new.source.calls.faults }
-        ensures ok_counts_none { OnOk result (self.new.source.calls.faults ≡ self.old.source.calls.faults) }
-        ensures counted { OnErr result (Rose self.old.source.calls.faults self.new.source.calls.faults) }
+        ensures counts { CountsFault result self.old.source.calls.faults self.new.source.calls.faults }
 
         // The exact answer.
         ensures fails { IsErr result ↔ FailsNext self.old.source.calls }
@@ -86,13 +82,11 @@ impl Source for MemLink {
 
 impl Sink for MemLink {
     ghost use Rattle.std.specs.Prelude.{Some};
-    ghost use Rattle.dcr_base.specs.Side.{side};
+    ghost use Rattle.dcr_fakes.specs.LinkState.{asked_of, answered_of};
 
-    ghost taken = { λ link. Some link.sink.taken };
+    ghost takes = { answered_of };
 
-    ghost write_faults = { λ link. link.sink.calls.faults };
-
-    ghost source_side = { λ link. side (Some link.source.left) link.source.calls.faults };
+    ghost source_side = { asked_of };
 
     /// As its sink writes: `Failed` comes at the writes of the sink that fail, where there is something to take and no room,
     /// and where memory for the bytes could not be had. What is asked stays as it was.
@@ -101,9 +95,7 @@ impl Sink for MemLink {
         ensures within { WritesAtMost result bytes.now }
         ensures appended { WriteAppends (Some self.old.sink.taken) (Some self.new.sink.taken) result bytes.now }
         ensures at_least_one { 0 < length bytes.now → IfOk result (λ n. 1 ≤ n) }
-        ensures never_falls { self.old.sink.calls.faults ≤ self.new.sink.calls.faults }
-        ensures ok_counts_none { OnOk result (self.new.sink.calls.faults ≡ self.old.sink.calls.faults) }
-        ensures rose { OnErr result (Rose self.old.sink.calls.faults self.new.sink.calls.faults) }
+        ensures counts { CountsFault result self.old.sink.calls.faults self.new.sink.calls.faults }
 
         // The exact answer, but for want of memory.
         ensures refused { Refuses self.old.sink (length bytes.now) → IsErr result }
@@ -122,14 +114,11 @@ impl Sink for MemLink {
 
 impl Spent for MemLink {
     ghost use Rattle.std.specs.Prelude.{Some};
+    ghost use Rattle.dcr_fakes.specs.LinkState.{asked_of, answered_of};
 
-    ghost unread = { λ link. Some link.source.left };
+    ghost unread = { asked_of };
 
-    ghost sent = { λ link. Some link.sink.taken };
-
-    ghost failed_reads = { λ link. link.source.calls.faults };
-
-    ghost failed_writes = { λ link. link.sink.calls.faults };
+    ghost sent = { answered_of };
 }
 
 impl Link for MemLink {

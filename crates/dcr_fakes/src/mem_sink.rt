@@ -1,7 +1,7 @@
 ghost use Rattle.std.specs.Prelude.{◌≡◌, ◌+◌, ◌<◌, ◌≤◌, ◌⊎◌, [], Some, length, IsErr, IfOk, OnOk, OnErr};
 ghost use Rattle.std.specs.Io.{WritesAtMost};
 ghost use Rattle.std.specs.Io.KnownBytes.{WriteAppends};
-ghost use Rattle.dcr_base.specs.Count.{Rose};
+ghost use Rattle.dcr_base.specs.Count.{CountsFault};
 ghost use Rattle.dcr_fakes.specs.CallLog.{no_calls, counted, faulted};
 ghost use Rattle.dcr_fakes.specs.SinkState.{fitting, Refuses};
 
@@ -66,11 +66,9 @@ impl MemSink {
 
 impl Sink for MemSink {
     ghost use Rattle.std.specs.Prelude.{Some};
-    ghost use Rattle.dcr_base.specs.Side.{no_side};
+    ghost use Rattle.dcr_base.specs.Side.{no_side, side};
 
-    ghost taken = { λ sink. Some sink.taken };
-
-    ghost write_faults = { λ sink. sink.calls.faults };
+    ghost takes = { λ sink. side (Some sink.taken) sink.calls.faults };
 
     ghost source_side = { λ _. no_side };
 
@@ -83,9 +81,7 @@ impl Sink for MemSink {
         ensures appended { WriteAppends (Some self.old.taken) (Some self.new.taken)
             result bytes.now }
         ensures at_least_one { 0 < length bytes.now → IfOk result (λ n. 1 ≤ n) }
-        ensures never_falls { self.old.calls.faults ≤ self.new.calls.faults }
-        ensures ok_counts_none { OnOk result (self.new.calls.faults ≡ self.old.calls.faults) }
-        ensures rose { OnErr result (Rose self.old.calls.faults self.new.calls.faults) }
+        ensures counts { CountsFault result self.old.calls.faults self.new.calls.faults }
 
         // The exact answer, but for want of memory.
         ensures refused { Refuses self.old (length bytes.now) → IsErr result }

@@ -1,7 +1,7 @@
 ghost use Rattle.std.specs.Prelude.{◌≡◌, ◌<◌, ◌≤◌, ◌++◌, ◌↔◌, [], Ok, Some, length, take, drop, IsErr, IfOk, OnOk, OnErr};
 ghost use Rattle.std.specs.Io.{ReadsAtMost};
 ghost use Rattle.std.specs.Io.KnownBytes.{ReadConsumes};
-ghost use Rattle.dcr_base.specs.Count.{Rose};
+ghost use Rattle.dcr_base.specs.Count.{CountsFault};
 ghost use Rattle.dcr_fakes.specs.CallLog.{no_calls, counted, faulted, FailsNext};
 ghost use Rattle.dcr_fakes.specs.SourceState.{piece_len};
 
@@ -53,13 +53,11 @@ impl MemSource {
 
 impl Source for MemSource {
     ghost use Rattle.std.specs.Prelude.{◌≡◌, [], Some};
-    ghost use Rattle.dcr_base.specs.Side.{no_side};
+    ghost use Rattle.dcr_base.specs.Side.{no_side, side};
 
-    ghost left = { λ source. Some source.left };
+    ghost gives = { λ source. side (Some source.left) source.calls.faults };
 
     ghost has_ended = { λ source. source.left ≡ [] };
-
-    ghost read_faults = { λ source. source.calls.faults };
 
     ghost sink_side = { λ _. no_side };
 
@@ -73,9 +71,7 @@ impl Source for MemSource {
         ensures ends { result ≡ Ok 0 → 0 < length buf.new → self.new.left ≡ [] }
         ensures stays_ended { self.old.left ≡ [] → self.new.left ≡ [] }
         ensures gives_none { self.old.left ≡ [] → IfOk result (λ n. n ≡ 0) }
-        ensures never_falls { self.old.calls.faults ≤ self.new.calls.faults }
-        ensures ok_counts_none { OnOk result (self.new.calls.faults ≡ self.old.calls.faults) }
-        ensures counted { OnErr result (Rose self.old.calls.faults self.new.calls.faults) }
+        ensures counts { CountsFault result self.old.calls.faults self.new.calls.faults }
 
         // The exact answer.
         ensures fails { IsErr result ↔ FailsNext self.old.calls }

@@ -6,7 +6,8 @@ use Rattle.std.proofs.lemmas.List.{append-nil, drop_all, length-drop}
 use Rattle.std.proofs.lemmas.Bool.{false≢true}
 use Rattle.std.proofs.lemmas.Option.{same_Some}
 use Rattle.std.proofs.lemmas.List.Elements.{All-nil}
-use Rattle.dcr_base.specs.Side.{Side, side}
+use Rattle.dcr_base.specs.Side.{Side}
+use Rattle.dcr_base.proofs.CountLemmas.{fails_since}
 use Rattle.dcr_text.specs.Cutting.{HasNoEnd, begun}
 use Rattle.dcr_journal.specs.Run.{made_by}
 use Rattle.dcr_tape.specs.declared.tape.Store.{Store}
@@ -16,7 +17,7 @@ use Rattle.dcr_link.specs.declared.end.WorkCause.{WorkCause}
 use Rattle.dcr_link.specs.declared.end.WorkCause.TheVariants.{Ended, LinkFault, LongLine, ManyLines, Halted, NoMemory}
 use Rattle.dcr_link.specs.declared.end.WorkEnd.{WorkEnd}
 use Rattle.dcr_link.specs.Replies.{Terms, Placed, asked_in, call_of, calls_in, is_short, lines_met, made_since, most_bytes, most_lines, placed_of, replies}
-use Rattle.dcr_link.specs.Serving.{EndsBy, Served, Serves}
+use Rattle.dcr_link.specs.Serving.{CountsAnswer, CountsCause, EndsBy, Served, ServesBy}
 use Rattle.dcr_link.specs.TalkModel.{TalkValue}
 use Rattle.dcr_link.specs.Talking.{Going, GoesOn}
 use Rattle.dcr_link.proofs.LineLemmas.{none_added}
@@ -50,13 +51,25 @@ consumed_kept (Some a) (Some b) (Some c) x gone keeps = gone ∙ ap (λ (l : Lis
 
 -- ---- the other way of a link
 
-pub bytes_stay : {L : Type 0} (its : L → Side) (bytes : L → Option (List ℕ)) (faults : L → ℕ) (law : (link : L) → its link ≡ side (bytes link) (faults link)) (old new : L)
-    → its new ≡ its old → bytes new ≡ bytes old
-bytes_stay its bytes faults law old new same = ap (λ (s : Side). s.bytes) (sym (law new) ∙ same ∙ law old)
+pub side_stays : {L : Type 0} (aside its : L → Side) (law : (link : L) → aside link ≡ its link) (old new : L) → aside new ≡ aside old → its new ≡ its old
+side_stays aside its law old new same = sym (law new) ∙ same ∙ law old
 
-pub faults_stay : {L : Type 0} (its : L → Side) (bytes : L → Option (List ℕ)) (faults : L → ℕ) (law : (link : L) → its link ≡ side (bytes link) (faults link)) (old new : L)
-    → its new ≡ its old → faults new ≡ faults old
-faults_stay its bytes faults law old new same = ap (λ (s : Side). s.faults) (sym (law new) ∙ same ∙ law old)
+pub bytes_stay : {L : Type 0} (aside its : L → Side) (law : (link : L) → aside link ≡ its link) (old new : L) → aside new ≡ aside old → (its new).bytes ≡ (its old).bytes
+bytes_stay aside its law old new same = ap (λ (s : Side). s.bytes) (side_stays aside its law old new same)
+
+pub faults_stay : {L : Type 0} (aside its : L → Side) (law : (link : L) → aside link ≡ its link) (old new : L) → aside new ≡ aside old → (its new).faults ≡ (its old).faults
+faults_stay aside its law old new same = ap (λ (s : Side). s.faults) (side_stays aside its law old new same)
+
+-- what a session makes of the counts, where it ends by an answer
+pub cause_counts : (cause : WorkCause) (reads reads_after writes between writes_after : ℕ) → reads_after ≡ reads → between ≡ writes → CountsAnswer (Some cause) between writes_after
+    → CountsCause cause reads reads_after writes writes_after
+cause_counts Ended reads reads_after writes between writes_after same still none = absurd none
+cause_counts LinkFault reads reads_after writes between writes_after same still fails =
+    let since = fails_since writes between writes_after still fails in (omega (arith, same), since.0, inr since.1)
+cause_counts LongLine reads reads_after writes between writes_after same still more = (same, omega (arith, still, more))
+cause_counts ManyLines reads reads_after writes between writes_after same still more = (same, omega (arith, still, more))
+cause_counts (Halted halt) reads reads_after writes between writes_after same still more = (same, omega (arith, still, more))
+cause_counts NoMemory reads reads_after writes between writes_after same still as_before = (same, as_before ∙ still)
 
 -- ---- the session
 
@@ -134,7 +147,7 @@ module _ {D : Type 0} (c : ClusterId) (first : Option (Store D)) (capacity : ℕ
     -- the session has ended, whatever the link had left
     pub serves_end : (left left_now taken taken_now : Option (List ℕ)) (came written : List ℕ) (failed wider : Type 0) (end : WorkEnd) → Consumes left left_now came → Appends taken taken_now written
         → (failed → wider) → ((more : List ℕ) → Served first capacity terms (came ++ more) before after written failed end)
-        → Serves first capacity terms before after left taken taken_now wider end
+        → ServesBy first capacity terms before after left taken taken_now wider end
     serves_end (Some asked) (Some more) taken taken_now came written failed wider end gone added widen served = λ all is_all. (
       written,
       added,
@@ -146,7 +159,7 @@ module _ {D : Type 0} (c : ClusterId) (first : Option (Store D)) (capacity : ℕ
 
     -- the input has ended
     pub serves_input : (left left_now taken taken_now : Option (List ℕ)) (came written : List ℕ) (failed : Type 0) (end : WorkEnd) → Consumes left left_now came → IsAtEnd left_now → Appends taken taken_now written
-        → Served first capacity terms came before after written failed end → Serves first capacity terms before after left taken taken_now failed end
+        → Served first capacity terms came before after written failed end → ServesBy first capacity terms before after left taken taken_now failed end
     serves_input (Some asked) (Some more) taken taken_now came written failed end gone none added served = λ all is_all. (
       written,
       added,
@@ -191,7 +204,7 @@ module _ {D : Type 0} (c : ClusterId) (first : Option (Store D)) (capacity : ℕ
     )
 
     pub held_end : (cause : WorkCause) (wider : Type 0) → result ≡ Some cause → (failed → wider)
-        → Serves first capacity terms before after left taken taken_now wider (record { calls = length (made_since before after); cause = cause })
+        → ServesBy first capacity terms before after left taken taken_now wider (record { calls = length (made_since before after); cause = cause })
     held_end cause wider some widen =
         serves_end before after left left_read taken taken_now (held.0 ++ piece) (held.1 ++ on.0) failed wider (record { calls = length (made_since before after); cause = cause }) gone added widen
         (subst (GoesOn c first capacity terms before after next (held.0 ++ piece) (held.1 ++ on.0) failed) some on.2)
@@ -203,7 +216,7 @@ module _ {D : Type 0} (c : ClusterId) (first : Option (Store D)) (capacity : ℕ
 
     -- a read has failed
     pub held_fault : (failed : Type 0) → Keeps left_then left_now → failed
-        → Serves first capacity terms before pass left taken taken_now failed (record { calls = length (made_since before pass); cause = LinkFault })
+        → ServesBy first capacity terms before pass left taken taken_now failed (record { calls = length (made_since before pass); cause = LinkFault })
     held_fault failed keeps fault =
         serves_end before pass left left_now taken taken_now held.0 held.1 failed failed (record { calls = length (made_since before pass); cause = LinkFault })
         (consumed_kept left left_then left_now held.0 held.2 keeps) still_added (λ (f : failed). f)
@@ -211,7 +224,7 @@ module _ {D : Type 0} (c : ClusterId) (first : Option (Store D)) (capacity : ℕ
 
     -- the input has ended
     pub held_input : (failed : Type 0) → Consumes left_then left_now [] → IsAtEnd left_now
-        → Serves first capacity terms before pass left taken taken_now failed (record { calls = length (made_since before pass); cause = Ended })
+        → ServesBy first capacity terms before pass left taken taken_now failed (record { calls = length (made_since before pass); cause = Ended })
     held_input failed consumed none =
         serves_input before pass left left_now taken taken_now held.0 held.1 failed (record { calls = length (made_since before pass); cause = Ended })
         (subst (Consumes left left_now) (append-nil held.0) (consumed_then left left_then left_now held.0 [] held.2 consumed)) none still_added
@@ -219,7 +232,7 @@ module _ {D : Type 0} (c : ClusterId) (first : Option (Store D)) (capacity : ℕ
 
   -- there was no memory for a session
   pub no_session : (pass : PassValue) (left taken : Option (List ℕ)) (failed : Type 0) → pass.made ≡ made_by pass.session pass.front
-      → Serves first capacity terms pass pass left taken taken failed (record { calls = length (made_since pass pass); cause = NoMemory })
+      → ServesBy first capacity terms pass pass left taken taken failed (record { calls = length (made_since pass pass); cause = NoMemory })
   no_session pass left taken failed counted =
       let many : length (placed_of pass.session pass.front) ≡ pass.made = length-placed pass.session 0 pass.front ∙ sym counted in
       let nothing : made_since pass pass ≡ [] = drop_all pass.made (placed_of pass.session pass.front) (le_of _ _ many) in

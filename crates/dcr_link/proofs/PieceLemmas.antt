@@ -3,7 +3,7 @@ use Rattle.std.proofs.Common.{◌≡◌, ◌≢◌, ℕ, zero, suc, ◌+◌, ◌
 use Rattle.std.specs.Prelude.{Option, None, Result, IfErr, OnOk, OnErr}
 use Rattle.std.specs.Io.KnownBytes.{Appends}
 use Rattle.std.proofs.lemmas.List.{append-nil, length-drop, take_all, take_rest}
-use Rattle.dcr_base.specs.Count.{Rose}
+use Rattle.dcr_base.specs.Count.{CountsFault, Rose}
 use Rattle.dcr_base.specs.declared.writing.WriteFault.{WriteFault}
 use Rattle.dcr_text.specs.Cutting.{Cutter, CutsLine, TakesAll, begun}
 use Rattle.dcr_text.specs.declared.cutter.Cut.{Cut}
@@ -27,9 +27,9 @@ added_then (Some a) (Some b) None x y first next = absurd next
 added_then (Some a) (Some b) (Some c) x y first next = next ∙ ap (λ (l : List ℕ). l ++ y) first ∙ append_assoc a x y
 
 -- a count that stood still before it rose
-pub risen : {A E : Type 0} (said : Result A E) (first middle last : ℕ) → middle ≡ first → OnErr said (Rose middle last) → OnErr said (Rose first last)
+pub risen : {A E : Type 0} (said : Result A E) (first middle last : ℕ) → middle ≡ first → CountsFault said middle last → OnErr said (Rose first last)
 risen (Ok done) first middle last same fault = tt
-risen (Err stop) first middle last same fault = subst (λ (n : ℕ). Rose n last) same fault
+risen (Err stop) first middle last same fails = subst (λ (n : ℕ). Rose n last) same fails.1
 
 take_more_of : {X : Type 0} (xs : List X) (n m : ℕ) → take (n + m) xs ≡ take n xs ++ take m (drop n xs)
 take_more_of xs zero m = ap (λ (k : ℕ). take k xs) (let e : 0 + m ≡ m = omega arith in e)

@@ -1,4 +1,5 @@
 pub mod Replies
+pub mod SceneModel
 pub mod Serving
 pub mod Talking
 pub mod TalkModel

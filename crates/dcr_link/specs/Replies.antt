@@ -1,5 +1,5 @@
 -- What somebody who asks over a link is answered, line by line.
-use Rattle.std.specs.Prelude.{ℕ, ◌-◌, ◌==◌, Bool, nat_le, List, [], ◌∷◌, ◌++◌, length, map, filter, take, drop, codes, decimal, Option, Some, None, Result, Ok, Err, filter_map}
+use Rattle.std.specs.Prelude.{◌≡◌, ℕ, ◌-◌, ◌==◌, Bool, nat_le, List, [], ◌∷◌, ◌++◌, length, map, filter, take, drop, codes, decimal, Option, Some, None, Result, Ok, Err, filter_map}
 use Rattle.std.specs.List.{enumerate_from, flat_map, take_while}
 use Rattle.dcr_text.specs.Cutting.{without_return}
 use Rattle.dcr_journal.specs.declared.call.Call.{Call}
@@ -10,6 +10,7 @@ use Rattle.dcr_line.specs.CallLine.{call_in}
 use Rattle.dcr_line.specs.Line.{entry_text}
 use Rattle.dcr_text.specs.Lines.{pieces_of}
 use Rattle.dcr_turn.specs.PassValue.{PassValue}
+use Rattle.dcr_cell.specs.ClusterId.{ClusterId}
 use Rattle.dcr_cluster.specs.declared.halt.Halt.{Halt}
 use Rattle.dcr_cluster.specs.declared.halt.Halt.TheVariants.{Full, Stopped}
 use Rattle.dcr_link.specs.declared.end.WorkCause.{WorkCause}
@@ -41,6 +42,12 @@ pub record Terms : Type 0 where
 
 abbrev pub terms_of : List (List ℕ) → List (List ℕ) → Roles → Terms
 terms_of sites atoms policy = record { sites = sites; atoms = atoms; policy = policy }
+
+-- the names are those of as many sites and atoms as the cluster has, and the policy is over as many atoms
+pub record IsOfCluster (c : ClusterId) (terms : Terms) : Type 0 where
+  pub sites : length terms.sites ≡ length c.owned
+  pub atoms : length terms.atoms ≡ c.rules.atoms
+  pub policy : length terms.policy.atoms ≡ c.rules.atoms
 
 -- what a line asks for: a call, or else what it is answered without one
 abbrev pub Asked : Type 0

@@ -1,7 +1,8 @@
 -- How a session over a link ends.
-use Rattle.std.specs.Prelude.{◌≡◌, ◌≢◌, ◌⊎◌, ℕ, ◌+◌, ◌<◌, List, [], ◌++◌, length, map, take, Option, Some, ⊤}
+use Rattle.std.specs.Prelude.{◌≡◌, ◌≢◌, ◌⊎◌, ℕ, ◌+◌, ◌<◌, ◌≤◌, List, [], ◌++◌, length, map, take, Option, Some, None, ⊤}
 use Rattle.std.specs.Io.KnownBytes.{Appends}
-use Rattle.dcr_base.specs.Count.{Rose}
+use Rattle.dcr_base.specs.Count.{Fails, Rose}
+use Rattle.dcr_base.specs.Side.{Side}
 use Rattle.dcr_text.specs.Cutting.{HasNoEnd}
 use Rattle.dcr_journal.specs.declared.call.Call.{Call}
 use Rattle.dcr_tape.specs.declared.tape.Store.{Store}
@@ -61,12 +62,38 @@ module _ {D : Type 0} (first : Option (Store D)) (capacity : ℕ) (terms : Terms
     pub replied : written ++ rest ≡ replies terms before.session asked (made_since before after) end.cause
     pub ends : EndsBy failed end.cause
 
--- The same over a link that tells the bytes that it had left: of what it had taken, where it tells that, what was written is
--- what came behind.
-abbrev pub Serves : {D : Type 0} → Option (Store D) → ℕ → Terms → PassValue → PassValue → Option (List ℕ) → Option (List ℕ) → Option (List ℕ) → Type 0 → WorkEnd → Type 0
-Serves first capacity terms before after left taken now_taken failed end =
-    (asked : List ℕ) → left ≡ Some asked → (written : List ℕ) × Appends taken now_taken written × Served first capacity terms asked before after written failed end
-
 -- a count of the link rose
 abbrev pub AnyRose : ℕ → ℕ → ℕ → ℕ → Type 0
 AnyRose reads reads_after writes writes_after = Rose reads reads_after ⊎ Rose writes writes_after
+
+-- The same over a link that tells the bytes that it had left: of what it had taken, where it tells that, what was written is
+-- what came behind.
+abbrev pub ServesBy : {D : Type 0} → Option (Store D) → ℕ → Terms → PassValue → PassValue → Option (List ℕ) → Option (List ℕ) → Option (List ℕ) → Type 0 → WorkEnd → Type 0
+ServesBy first capacity terms before after left taken now_taken failed end =
+    (asked : List ℕ) → left ≡ Some asked → (written : List ℕ) × Appends taken now_taken written × Served first capacity terms asked before after written failed end
+
+-- the same of what the link had left and has left, and of what it had taken and has taken
+abbrev pub Serves : {D : Type 0} → Option (Store D) → ℕ → Terms → PassValue → PassValue → Side → Side → Side → Side → WorkEnd → Type 0
+Serves first capacity terms before after left rest had took end =
+    ServesBy first capacity terms before after left.bytes had.bytes took.bytes (AnyRose left.faults rest.faults had.faults took.faults) end
+
+-- What an answer makes of the count of failed writes, where the session goes on or ends by it. By an answer it doesn't end with
+-- its input.
+abbrev pub CountsAnswer : Option WorkCause → ℕ → ℕ → Type 0
+CountsAnswer None old new = new ≡ old
+CountsAnswer (Some Ended) old new = ⊥
+CountsAnswer (Some LinkFault) old new = Fails old new
+CountsAnswer (Some LongLine) old new = old ≤ new
+CountsAnswer (Some ManyLines) old new = old ≤ new
+CountsAnswer (Some (Halted halt)) old new = old ≤ new
+CountsAnswer (Some NoMemory) old new = new ≡ old
+
+-- What a session makes of the counts of failed reads and writes: with `LinkFault` one of them rose, and with another cause no
+-- read has failed, and no write but that of last words.
+abbrev pub CountsCause : WorkCause → ℕ → ℕ → ℕ → ℕ → Type 0
+CountsCause Ended reads reads_after writes writes_after = (reads_after ≡ reads) × (writes_after ≡ writes)
+CountsCause LinkFault reads reads_after writes writes_after = (reads ≤ reads_after) × (writes ≤ writes_after) × AnyRose reads reads_after writes writes_after
+CountsCause LongLine reads reads_after writes writes_after = (reads_after ≡ reads) × (writes ≤ writes_after)
+CountsCause ManyLines reads reads_after writes writes_after = (reads_after ≡ reads) × (writes ≤ writes_after)
+CountsCause (Halted halt) reads reads_after writes writes_after = (reads_after ≡ reads) × (writes ≤ writes_after)
+CountsCause NoMemory reads reads_after writes writes_after = (reads_after ≡ reads) × (writes_after ≡ writes)

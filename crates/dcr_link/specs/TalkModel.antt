@@ -1,8 +1,7 @@
 -- What the fields of a `Talk` stand for.
 use Rattle.std.specs.Prelude.{◌≡◌, ℕ, ◌≤◌, List}
 use Rattle.dcr_text.specs.Cutting.{Cutter}
-use Rattle.dcr_line.specs.DirectoryModel.{named}
-use Rattle.dcr_link.specs.Replies.{Terms, most_bytes, most_lines, terms_of}
+use Rattle.dcr_link.specs.Replies.{Terms, most_bytes, most_lines}
 use Rattle.dcr_link.specs.declared.talk.Talk.TheInside.{Inside}
 
 pub record TalkValue : Type 0 where
@@ -15,10 +14,9 @@ pub record TalkValue : Type 0 where
   pub reply : List ℕ
 
 abbrev pub talk_of : Inside → TalkValue
-talk_of t = record { terms = terms_of t.cover.now.names t.graph.now.names t.policy.now; cutter = t.cutter; lines = t.lines; reply = t.reply.items }
+talk_of t = record { terms = t.scene.now; cutter = t.cutter; lines = t.lines; reply = t.reply.items }
 
--- names are found in the directory, and no more lines are answered than may be
+-- no more lines are answered than may be
 pub record IsTalk (t : Inside) : Type 0 where
-  pub directory : t.directory ≡ named t.cover.now.names t.graph.now.names
   pub limit : t.cutter.limit ≡ most_bytes
   pub few : t.lines ≤ most_lines

@@ -18,15 +18,13 @@ use Rattle.dcr_cluster.specs.Calls.{AnsweredAfter, HaltedAfter}
 use Rattle.dcr_cluster.specs.declared.halt.Halt.{Halt}
 use Rattle.dcr_link.specs.declared.end.WorkCause.{WorkCause}
 use Rattle.dcr_link.specs.declared.end.WorkCause.TheVariants.{LinkFault, Halted, NoMemory}
-use Rattle.dcr_link.specs.Replies.{Asked, Terms, answers, asked_in, call_of, calls_in, ended, halt_text, is_short, lines_text, made_since, most_bytes, most_lines, placed_of}
+use Rattle.dcr_link.specs.Replies.{Asked, IsOfCluster, Terms, answers, asked_in, call_of, calls_in, ended, halt_text, is_short, lines_text, made_since, most_bytes, most_lines, placed_of}
 use Rattle.dcr_link.specs.Serving.{Served}
 use Rattle.dcr_link.specs.TalkModel.{TalkValue}
 
--- the names are those of as many sites and atoms as the cluster has, and the policy is over as many atoms
-pub record IsNamedBy (c : ClusterId) (talk : TalkValue) : Type 0 where
-  pub sites : length talk.terms.sites ≡ length c.owned
-  pub atoms : length talk.terms.atoms ≡ c.rules.atoms
-  pub policy : length talk.terms.policy.atoms ≡ c.rules.atoms
+-- the talk is in a scene of the cluster
+abbrev pub IsNamedBy : ClusterId → TalkValue → Type 0
+IsNamedBy c talk = IsOfCluster c talk.terms
 
 -- the entry that a pass has made last
 abbrev pub last_of : PassValue → Call → Outcome → Entry

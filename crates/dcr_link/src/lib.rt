@@ -3,8 +3,10 @@
 
 mod end;
 mod reply;
+mod scene;
 mod session;
 mod talk;
 
 pub use end::{WorkCause, WorkEnd};
+pub use scene::Scene;
 pub use session::serve_session;

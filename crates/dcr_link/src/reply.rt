@@ -6,6 +6,7 @@ ghost use Rattle.dcr_text.specs.Cutting.{without_return};
 ghost use Rattle.dcr_journal.specs.Run.{IsInRange};
 ghost use Rattle.dcr_line.specs.CallLine.{call_in};
 ghost use Rattle.dcr_link.specs.Replies.{asked_by, ended, halt_text};
+ghost use Rattle.dcr_link.specs.Serving.{CountsAnswer};
 ghost use Rattle.dcr_link.specs.Talking.{HasAnswered, HasLaid, HasReply, IsNamedBy, MayLay};
 
 use crate::WorkCause;
@@ -15,14 +16,13 @@ use dcr_base::{Disk, Gate, Link, write_all};
 use dcr_cell::StoreName;
 use dcr_cluster::{Cluster, Halt};
 use dcr_journal::{Call, Entry, Outcome};
-use dcr_line::{read_call, write_entry};
 use dcr_set::NoMemory;
 use dcr_text::decimal_is_one_number;
 use dcr_turn::{Pass, TurnName};
 use itoa::Buffer;
 use std::sync::Wait;
 
-impl<'n> Talk<'n> {
+impl<'s, 'n> Talk<'s, 'n> {
     /// Answers the line that was cut off, by one write. None where the session goes on, and else why it ends.
     pub(crate) fn answer<D: Disk, G: Gate, N: StoreName<D>, L: Link, R: Wait>(
         &mut self,
@@ -36,14 +36,12 @@ impl<'n> Talk<'n> {
         ensures same { self.new ≡ record self.old { reply = self.new.reply } }
         ensures session { pass.new.session ≡ pass.old.session }
         ensures no_fewer { pass.old.made ≤ pass.new.made }
-        ensures answered { (written : List ℕ) × Appends (L.taken link.old) (L.taken link.new) written
+        ensures answered { (written : List ℕ) × Appends (L.takes link.old).bytes (L.takes link.new).bytes written
             × HasAnswered N.cluster N.first N.capacity self.old.terms
             (asked_by self.old.terms pass.old.session self.old.cutter.bytes) pass.old pass.new written
-            (Rose (L.write_faults link.old) (L.write_faults link.new)) result }
+            (Rose (L.takes link.old).faults (L.takes link.new).faults) result }
+        ensures counts { CountsAnswer result (L.takes link.old).faults (L.takes link.new).faults }
         ensures apart { L.source_side link.new ≡ L.source_side link.old }
-        ensures no_fault { result ≡ None → L.write_faults link.new ≡ L.write_faults link.old }
-        ensures unwritten { result ≡ Some WorkCause.NoMemory → L.write_faults link.new ≡ L.write_faults link.old }
-        ensures never_falls { L.write_faults link.old ≤ L.write_faults link.new }
     {
         match self.reply_to(rt, cluster, pass) {
             Ok(None) => match write_all(link, self.reply()) {
@@ -76,8 +74,8 @@ impl<'n> Talk<'n> {
             self.say(b"bad-line", b"")?;
             return Ok(None);
         };
-        let policy = self.policy;
-        if let Some(role) = policy.deny(pass.session(), &call) {
+        let scene = self.scene;
+        if let Some(role) = scene.deny(pass.session(), &call) {
             self.say(b"denied ", role.text().as_bytes())?;
             return Ok(None);
         }
@@ -91,7 +89,7 @@ impl<'n> Talk<'n> {
         ensures call { result ≡ call_in self.now.terms.sites self.now.terms.atoms (without_return self.now.cutter.bytes) }
         ensures in_range { IfSome result (λ call. IsInRange (length self.now.terms.sites) (length self.now.terms.atoms) call) }
     {
-        read_call(self.cutter.line(), &self.directory)
+        self.scene.call_of(self.cutter.line())
     }
 
     // The reply that lies ready.
@@ -133,13 +131,7 @@ impl<'n> Talk<'n> {
                     outcome,
                 };
                 self.reply.clear();
-                write_entry(
-                    pass.seen() - 1,
-                    &entry,
-                    self.graph,
-                    self.cover,
-                    &mut self.reply,
-                )?;
+                self.scene.put(pass.seen() - 1, &entry, &mut self.reply)?;
                 self.reply.push(b'\n')?;
                 Ok(None)
             }

@@ -1,12 +1,12 @@
-ghost use Rattle.std.specs.Prelude.{◌≡◌, ◌≢◌, ◌⊎◌, ◌+◌, ◌≤◌, length, IsSome};
+ghost use Rattle.std.specs.Prelude.{◌≡◌, ◌+◌, length, IsSome};
 ghost use Rattle.dcr_graph.specs.GraphValue.{rules_of};
 ghost use Rattle.dcr_cluster.specs.Calls.{Shows};
-ghost use Rattle.dcr_link.specs.Replies.{terms_of};
-ghost use Rattle.dcr_link.specs.Serving.{AnyRose, Serves};
-ghost use Rattle.dcr_link.specs.declared.end.WorkCause.TheVariants.{Ended, LinkFault, Halted, NoMemory};
+ghost use Rattle.dcr_link.specs.Replies.{IsOfCluster, terms_of};
+ghost use Rattle.dcr_link.specs.Serving.{CountsCause, Serves};
+ghost use Rattle.dcr_link.specs.declared.end.WorkCause.TheVariants.{Ended, Halted};
 
 use crate::talk::Talk;
-use crate::{WorkCause, WorkEnd};
+use crate::{Scene, WorkCause, WorkEnd};
 use dcr_base::{Disk, Gate, Link};
 use dcr_cell::StoreName;
 use dcr_cluster::Cluster;
@@ -48,30 +48,56 @@ pub fn serve_session<D: Disk, G: Gate, N: StoreName<D>, L: Link, R: Wait>(
     ensures session { pass.new.session ≡ pass.old.session }
     ensures calls { pass.new.made ≡ pass.old.made + result.calls }
     ensures serves { Serves N.first N.capacity (terms_of cover.now.names graph.now.names policy.now) pass.old pass.new
-        (L.left link.old) (L.taken link.old) (L.taken link.new)
-        (AnyRose (L.read_faults link.old) (L.read_faults link.new) (L.write_faults link.old) (L.write_faults link.new)) result }
+        (L.gives link.old) (L.gives link.new) (L.takes link.old) (L.takes link.new) result }
     ensures ended { result.cause ≡ Ended → L.has_ended link.new }
-    ensures fault { result.cause ≡ LinkFault
-        → AnyRose (L.read_faults link.old) (L.read_faults link.new) (L.write_faults link.old) (L.write_faults link.new) }
-    ensures no_read_fault { result.cause ≢ LinkFault → L.read_faults link.new ≡ L.read_faults link.old }
-    ensures no_write_fault { (result.cause ≡ Ended) ⊎ (result.cause ≡ NoMemory) → L.write_faults link.new ≡ L.write_faults link.old }
+    ensures counts { CountsCause result.cause (L.gives link.old).faults (L.gives link.new).faults (L.takes link.old).faults (L.takes link.new).faults }
     ensures halted { (halt : _) → result.cause ≡ Halted halt → Shows N.first N.capacity pass.new.front halt }
-    ensures told { IsSome (L.left link.old) → IsSome (L.left link.new) }
-    ensures reads_never_fall { L.read_faults link.old ≤ L.read_faults link.new }
-    ensures writes_never_fall { L.write_faults link.old ≤ L.write_faults link.new }
+    ensures told { IsSome (L.gives link.old).bytes → IsSome (L.gives link.new).bytes }
 {
-    let made = pass.made();
     // A cover has as many sets as names.
     cover.sites();
-    let Ok(mut talk) = Talk::new(alloc, graph, cover, policy) else {
+    let Ok(scene) = Scene::new(alloc, graph, cover, policy) else {
+        // The pass is that of a session whose calls are all in what it has seen.
+        pass.made();
         return WorkEnd {
             calls: 0,
             cause: WorkCause::NoMemory,
         };
     };
-    let cause = talk.hold(rt, cluster, pass, link);
-    WorkEnd {
-        calls: pass.made() - made,
-        cause,
+    scene.serve(rt, alloc, cluster, pass, link)
+}
+
+impl<'n> Scene<'n> {
+    /// The same in a scene that was made before: of the cluster's names, and of a policy over as many atoms.
+    pub fn serve<D: Disk, G: Gate, N: StoreName<D>, L: Link, R: Wait>(
+        &self,
+        rt: &R,
+        alloc: Global,
+        cluster: &Cluster<D, G, N>,
+        pass: &mut Pass<N>,
+        link: &mut L,
+    ) -> WorkEnd
+        requires { IsOfCluster N.cluster self.now }
+        ensures session { pass.new.session ≡ pass.old.session }
+        ensures calls { pass.new.made ≡ pass.old.made + result.calls }
+        ensures serves { Serves N.first N.capacity self.now pass.old pass.new
+            (L.gives link.old) (L.gives link.new) (L.takes link.old) (L.takes link.new) result }
+        ensures counts { CountsCause result.cause (L.gives link.old).faults (L.gives link.new).faults (L.takes link.old).faults (L.takes link.new).faults }
+        ensures ended { result.cause ≡ Ended → L.has_ended link.new }
+        ensures halted { (halt : _) → result.cause ≡ Halted halt → Shows N.first N.capacity pass.new.front halt }
+        ensures told { IsSome (L.gives link.old).bytes → IsSome (L.gives link.new).bytes }
+    {
+        let made = pass.made();
+        let Ok(mut talk) = Talk::new(alloc, self) else {
+            return WorkEnd {
+                calls: 0,
+                cause: WorkCause::NoMemory,
+            };
+        };
+        let cause = talk.hold(rt, cluster, pass, link);
+        WorkEnd {
+            calls: pass.made() - made,
+            cause,
+        }
     }
 }

@@ -3,19 +3,15 @@ ghost use Rattle.std.specs.Io.KnownBytes.{Appends};
 ghost use Rattle.dcr_base.specs.Count.{Rose};
 ghost use Rattle.dcr_journal.specs.Run.{made_by};
 ghost use Rattle.dcr_cluster.specs.Calls.{Shows};
-ghost use Rattle.dcr_link.specs.Replies.{made_since, most_lines, terms_of};
-ghost use Rattle.dcr_link.specs.Serving.{AnyRose, Serves};
+ghost use Rattle.dcr_link.specs.Replies.{made_since, most_lines};
+ghost use Rattle.dcr_link.specs.Serving.{CountsAnswer, CountsCause, Serves};
 ghost use Rattle.dcr_link.specs.Talking.{CutsNext, Going, GoesOn, IsNamedBy, bytes_spare};
-ghost use Rattle.dcr_link.specs.declared.end.WorkCause.TheVariants.{Ended, LinkFault, Halted};
+ghost use Rattle.dcr_link.specs.declared.end.WorkCause.TheVariants.{Ended, Halted};
 
-use crate::WorkCause;
+use crate::{Scene, WorkCause};
 use dcr_base::{Disk, Failed, Gate, Link, write_all};
 use dcr_cell::StoreName;
 use dcr_cluster::Cluster;
-use dcr_graph::Graph;
-use dcr_line::Directory;
-use dcr_policy::Policy;
-use dcr_proj::Cover;
 use dcr_set::NoMemory;
 use dcr_text::{Cut, LineCutter};
 use dcr_turn::Pass;
@@ -38,17 +34,14 @@ const COMMON_REPLY: usize = 4096;
 /// What is kept between the lines of a session over a link. Contracts see the names and the policy, what came since the last
 /// line end, how many lines were cut off, and the last reply.
 #[derive(Drop)]
-pub(crate) struct Talk<'n> {
-    pub(crate) graph: &'n Graph,
-    pub(crate) cover: &'n Cover,
-    pub(crate) policy: &'n Policy,
-    pub(crate) directory: Directory<'n>,
+pub(crate) struct Talk<'s, 'n> {
+    pub(crate) scene: &'s Scene<'n>,
     pub(crate) cutter: LineCutter,
     lines: u32,
     pub(crate) reply: Vec<u8>,
 }
 
-impl<'n> Model for Talk<'n> {
+impl<'s, 'n> Model for Talk<'s, 'n> {
     ghost use Rattle.dcr_link.specs.TalkModel.{TalkValue, talk_of, IsTalk};
 
     ghost Value = { TalkValue };
@@ -58,23 +51,15 @@ impl<'n> Model for Talk<'n> {
     ghost invariant = { IsTalk };
 }
 
-impl<'n> Talk<'n> {
-    /// Of a graph, a cover and a policy, with nothing come. `NoMemory` where memory could not be had.
-    pub(crate) fn new(
-        alloc: Global,
-        graph: &'n Graph,
-        cover: &'n Cover,
-        policy: &'n Policy,
-    ) -> Result<Talk<'n>, NoMemory>
-        ensures terms { IfOk result (λ talk. talk.terms ≡ terms_of cover.now.names graph.now.names policy.now) }
+impl<'s, 'n> Talk<'s, 'n> {
+    /// Of a scene, with nothing come. `NoMemory` where memory could not be had.
+    pub(crate) fn new(alloc: Global, scene: &'s Scene<'n>) -> Result<Talk<'s, 'n>, NoMemory>
+        ensures terms { IfOk result (λ talk. talk.terms ≡ scene.now) }
         ensures lines { IfOk result (λ talk. talk.lines ≡ 0) }
         ensures cutter { IfOk result (λ talk. (talk.cutter.bytes ≡ []) × (talk.cutter.is_line ≡ false) × (talk.cutter.is_long ≡ false)) }
     {
         Ok(Talk {
-            graph,
-            cover,
-            policy,
-            directory: Directory::new(alloc, graph, cover)?,
+            scene,
             cutter: LineCutter::new(alloc, MOST_BYTES)?,
             lines: 0,
             reply: Vec::with_capacity(alloc, COMMON_REPLY)?,
@@ -94,19 +79,13 @@ impl<'n> Talk<'n> {
         requires new { (self.old.lines ≡ 0) × (self.old.cutter.bytes ≡ []) × (self.old.cutter.is_line ≡ false) × (self.old.cutter.is_long ≡ false) }
         ensures session { pass.new.session ≡ pass.old.session }
         ensures serves { Serves N.first N.capacity self.old.terms pass.old pass.new
-            (L.left link.old) (L.taken link.old) (L.taken link.new)
-            (AnyRose (L.read_faults link.old) (L.read_faults link.new) (L.write_faults link.old) (L.write_faults link.new))
+            (L.gives link.old) (L.gives link.new) (L.takes link.old) (L.takes link.new)
             (record { calls = length (made_since pass.old pass.new); cause = result }) }
         ensures no_fewer { pass.old.made ≤ pass.new.made }
         ensures ended { result ≡ Ended → L.has_ended link.new }
-        ensures fault { result ≡ LinkFault
-            → AnyRose (L.read_faults link.old) (L.read_faults link.new) (L.write_faults link.old) (L.write_faults link.new) }
-        ensures no_read_fault { result ≢ LinkFault → L.read_faults link.new ≡ L.read_faults link.old }
-        ensures no_write_fault { (result ≡ Ended) ⊎ (result ≡ WorkCause.NoMemory) → L.write_faults link.new ≡ L.write_faults link.old }
+        ensures counts { CountsCause result (L.gives link.old).faults (L.gives link.new).faults (L.takes link.old).faults (L.takes link.new).faults }
         ensures halted { (halt : _) → result ≡ Halted halt → Shows N.first N.capacity pass.new.front halt }
-        ensures told { IsSome (L.left link.old) → IsSome (L.left link.new) }
-        ensures reads_never_fall { L.read_faults link.old ≤ L.read_faults link.new }
-        ensures writes_never_fall { L.write_faults link.old ≤ L.write_faults link.new }
+        ensures told { IsSome (L.gives link.old).bytes → IsSome (L.gives link.new).bytes }
     {
         let mut piece = [0; PIECE];
         loop {
@@ -135,18 +114,14 @@ impl<'n> Talk<'n> {
         ensures terms { self.new.terms ≡ self.old.terms }
         ensures session { pass.new.session ≡ pass.old.session }
         ensures goes_on { (before : _) (came written : List ℕ) → Going N.cluster N.first N.capacity self.old.terms before pass.old self.old came written
-            → (more : List ℕ) × Appends (L.taken link.old) (L.taken link.new) more
+            → (more : List ℕ) × Appends (L.takes link.old).bytes (L.takes link.new).bytes more
             × GoesOn N.cluster N.first N.capacity self.old.terms before pass.new self.new (came ++ piece.now) (written ++ more)
-            (Rose (L.write_faults link.old) (L.write_faults link.new)) result }
+            (Rose (L.takes link.old).faults (L.takes link.new).faults) result }
         ensures no_fewer { pass.old.made ≤ pass.new.made }
         ensures spare { result ≡ None → bytes_spare self.new + length piece.now ≤ bytes_spare self.old }
-        ensures not_ended { result ≢ Some Ended }
-        ensures fault { result ≡ Some LinkFault → Rose (L.write_faults link.old) (L.write_faults link.new) }
+        ensures counts { CountsAnswer result (L.takes link.old).faults (L.takes link.new).faults }
         ensures halted { (halt : _) → result ≡ Some (Halted halt) → Shows N.first N.capacity pass.new.front halt }
         ensures apart { L.source_side link.new ≡ L.source_side link.old }
-        ensures no_fault { result ≡ None → L.write_faults link.new ≡ L.write_faults link.old }
-        ensures unwritten { result ≡ Some WorkCause.NoMemory → L.write_faults link.new ≡ L.write_faults link.old }
-        ensures never_falls { L.write_faults link.old ≤ L.write_faults link.new }
     {
         let mut used = 0;
         while used < piece.len() {

@@ -6,11 +6,11 @@ use mathlib.Core.Logic.{dite}
 use native.Mathlib.Decide.{ℕ_discrete}
 use lib.ListN.{get_elem?}
 use Rattle.atomic_table.specs.Table.{Final, Seen}
-use Rattle.dcr_lock.specs.Rule.{knows, Keeps}
+use Rattle.dcr_lock.specs.Rule.{knows, AreKept}
 use Rattle.dcr_lock.proofs.Keeping.{is_empty}
 
 pub nothing_there : {T : Type 0} (belongs : ℕ → T → Type 0) (words : List ℕ) (slots : List (Option T)) (id empty p : ℕ) (x : Option T)
-    → Final (Seen (Keeps belongs) id (knows [] empty)) words slots → p < empty → p < length slots → get_elem? slots p ≡ maybe.some x → x ≡ None
+    → Final (Seen (AreKept belongs) id (knows [] empty)) words slots → p < empty → p < length slots → get_elem? slots p ≡ maybe.some x → x ≡ None
 nothing_there {T} belongs words slots id empty p x last below inside at =
     let s = last.0 in
     let here : p < length s.homes = let e = last.3 in omega arith in

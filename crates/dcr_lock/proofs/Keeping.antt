@@ -12,7 +12,7 @@ use lib.ListN.{get_elem?}
 use Rattle.atomic_table.specs.Table.{State, Me, Act, Valid, step, stepped, carried_after, takes, keeps, gives, Allows, Enters}
 use Rattle.atomic_table.proofs.Lists.{set_here, set_else, set_again}
 use Rattle.dcr_lock.specs.declared.steps.SeatView.{SeatView}
-use Rattle.dcr_lock.specs.Rule.{knows, times, is_below, holders, knowers, IsTaken, IsEmpty, IsKept, Keeps}
+use Rattle.dcr_lock.specs.Rule.{knows, times, is_below, holders, knowers, IsTaken, IsEmpty, IsKept, AreKept}
 use Rattle.dcr_lock.specs.Steps.{Sits, Fills, TakesOrMisses, empty_then, GivesBack}
 use Rattle.dcr_lock.proofs.Counts.{total-set, total-push, total-has}
 
@@ -61,8 +61,8 @@ module _ {T : Type 0} where
   kept_same belongs s t p same (inr (inr k)) = inr (inr record { word = same.word ∙ k.word; home = same.home ∙ k.home; unheld = same.held ∙ k.unheld; known = let a = same.known in let b = k.known in omega arith })
 
   -- a step at one place keeps the rule, where that place is free, taken or empty after it, and nothing is changed at the others
-  step_at : (belongs : ℕ → T → Type 0) (s t : State (Option T) SeatView) (p : ℕ) → Keeps belongs s → length t.words ≡ length s.words → length t.homes ≡ length s.homes
-      → ((q : ℕ) → q ≢ p → Same s t q) → IsKept belongs t p → Keeps belongs t
+  step_at : (belongs : ℕ → T → Type 0) (s t : State (Option T) SeatView) (p : ℕ) → AreKept belongs s → length t.words ≡ length s.words → length t.homes ≡ length s.homes
+      → ((q : ℕ) → q ≢ p → Same s t q) → IsKept belongs t p → AreKept belongs t
   step_at belongs s t p kept words homes same here = record {
     words = words ∙ (kept.words ∙ sym homes);
     each = λ q below. dite (ℕ_discrete q p)
@@ -96,7 +96,7 @@ module _ {T : Type 0} where
   is_taken belongs s p id v (inr (inr k)) at holds = let a = total-has (holds_in p) s.views id v at in let c = k.unheld in absurd (omega arith)
 
   -- new seat
-  pub sits : (belongs : ℕ → T → Type 0) (slots p : ℕ) → Enters (Keeps belongs) slots p (λ n w. Sits {T = T} (step slots p 0 0 maybe.none) (knows [] 0, []) n (w, []))
+  pub sits : (belongs : ℕ → T → Type 0) (slots p : ℕ) → Enters (AreKept belongs) slots p (λ n w. Sits {T = T} (step slots p 0 0 maybe.none) (knows [] 0, []) n (w, []))
   sits belongs slots p s kept len bound =
       let t : State (Option T) SeatView = record { words = s.words; homes = s.homes; views = s.views ++ knows [] 0 ∷ [] } in (
         knows [] 0,
@@ -116,7 +116,7 @@ module _ {T : Type 0} where
 
   -- fill
   pub fills : (belongs : ℕ → T → Type 0) (slots id p : ℕ) (held : List ℕ) (out : List (ℕ × Option T)) → p < slots
-      → Allows (Keeps belongs) slots id (knows held (p + 1), out) p (λ _. 1) (λ _. Fills (step slots p 1 0 maybe.none) (knows held (p + 1), out) 1)
+      → Allows (AreKept belongs) slots id (knows held (p + 1), out) p (λ _. 1) (λ _. Fills (step slots p 1 0 maybe.none) (knows held (p + 1), out) 1)
   fills belongs slots id p held out below s kept len at bound =
       let v = knows held (p + 1) in
       let w = knows (p ∷ held) p in
@@ -139,20 +139,20 @@ module _ {T : Type 0} where
       )
 
   -- the state after a miss is that before it
-  missed : (belongs : ℕ → T → Type 0) (s : State (Option T) SeatView) (p word id : ℕ) (v : SeatView) → Keeps belongs s → get_elem? s.views id ≡ maybe.some v → slice_index s.words p ≡ word
-      → Keeps belongs record { words = set s.words p word; homes = s.homes; views = set s.views id v }
+  missed : (belongs : ℕ → T → Type 0) (s : State (Option T) SeatView) (p word id : ℕ) (v : SeatView) → AreKept belongs s → get_elem? s.views id ≡ maybe.some v → slice_index s.words p ≡ word
+      → AreKept belongs record { words = set s.words p word; homes = s.homes; views = set s.views id v }
   missed belongs s p word id v kept at is =
       let words : s.words ≡ set s.words p word = sym (set-get_or s.words p 0) ∙ ap (λ (n : ℕ). set s.words p n) is in
       let views : s.views ≡ set s.views id v = sym (set_again s.views id v at) in
-      subst (λ (x : List ℕ × List SeatView). Keeps belongs record { words = x.0; homes = s.homes; views = x.1 }) (λ i. (words i, views i)) kept
+      subst (λ (x : List ℕ × List SeatView). AreKept belongs record { words = x.0; homes = s.homes; views = x.1 }) (λ i. (words i, views i)) kept
 
   -- how the step goes where the word found is n
   abbrev Goes : (ℕ → T → Type 0) → State (Option T) SeatView → ℕ → ℕ → ℕ → Me (Option T) SeatView → ℕ → Type 0
   Goes belongs s slots p id me n =
-      (w : SeatView) × (a : Act (Option T)) × Valid s.homes me.1 a × Keeps belongs (stepped s p (either (n == 0) 1 n) id me.1 w a)
+      (w : SeatView) × (a : Act (Option T)) × Valid s.homes me.1 a × AreKept belongs (stepped s p (either (n == 0) 1 n) id me.1 w a)
       × TakesOrMisses belongs (step slots p 0 1 maybe.none) me n (w, carried_after me.1 a)
 
-  goes_on : (belongs : ℕ → T → Type 0) (s : State (Option T) SeatView) (slots p id : ℕ) (me : Me (Option T) SeatView) → Keeps belongs s
+  goes_on : (belongs : ℕ → T → Type 0) (s : State (Option T) SeatView) (slots p id : ℕ) (me : Me (Option T) SeatView) → AreKept belongs s
       → p < length s.homes → get_elem? s.views id ≡ maybe.some me.0 → IsKept belongs s p → Goes belongs s slots p id me (slice_index s.words p)
   goes_on belongs s slots p id me kept here at (inl was) =
       let v = me.0 in
@@ -182,13 +182,13 @@ module _ {T : Type 0} where
 
   -- take, and miss
   pub takes_or_misses : (belongs : ℕ → T → Type 0) (slots id p : ℕ) (me : Me (Option T) SeatView) → p < slots
-      → Allows (Keeps belongs) slots id me p (λ n. either (n == 0) 1 n) (TakesOrMisses belongs (step slots p 0 1 maybe.none) me)
+      → Allows (AreKept belongs) slots id me p (λ n. either (n == 0) 1 n) (TakesOrMisses belongs (step slots p 0 1 maybe.none) me)
   takes_or_misses belongs slots id p me below s kept len at bound =
       let here : p < length s.homes = omega arith in goes_on belongs s slots p id me kept here at (kept.each p here)
 
   -- give back with a value that belongs there
   pub gives_back : (belongs : ℕ → T → Type 0) (slots id p empty : ℕ) (held : List ℕ) (value : T) (out : List (ℕ × Option T)) → p < slots → belongs p value
-      → Allows (Keeps belongs) slots id (knows (p ∷ held) empty, (p, Some value) ∷ out) p (λ _. 0)
+      → Allows (AreKept belongs) slots id (knows (p ∷ held) empty, (p, Some value) ∷ out) p (λ _. 0)
       (λ _. GivesBack (step slots p 0 0 maybe.none) (knows (p ∷ held) empty, (p, Some value) ∷ out) 0)
   gives_back belongs slots id p empty held value out below fits s kept len at bound =
       let v = knows (p ∷ held) empty in
@@ -215,7 +215,7 @@ module _ {T : Type 0} where
 
   -- give back with none
   pub leaves_empty : (belongs : ℕ → T → Type 0) (slots id p empty : ℕ) (held : List ℕ) (out : List (ℕ × Option T)) → p < slots
-      → Allows (Keeps belongs) slots id (knows (p ∷ held) empty, (p, None) ∷ out) p (λ _. 2)
+      → Allows (AreKept belongs) slots id (knows (p ∷ held) empty, (p, None) ∷ out) p (λ _. 2)
       (λ _. GivesBack (step slots p 2 0 maybe.none) (knows (p ∷ held) empty, (p, None) ∷ out) 2)
   leaves_empty belongs slots id p empty held out below s kept len at bound =
       let v = knows (p ∷ held) empty in

@@ -5,7 +5,7 @@ use Rattle.std.proofs.lemmas.List.{take-replicate, get_or-replicate}
 use mathlib.Core.Option as maybe
 use lib.ListN.{get_elem?, take}
 use Rattle.atomic_table.specs.Table.{opening}
-use Rattle.dcr_lock.specs.Rule.{knows, Keeps}
+use Rattle.dcr_lock.specs.Rule.{knows, AreKept}
 use Rattle.dcr_lock.proofs.Keeping.{knows-most}
 
 length_homes : (T : Type 0) (n : ℕ) → length (map (λ (x : Option T). maybe.some x) (replicate n None)) ≡ n
@@ -17,7 +17,7 @@ home_there {T} zero p h = absurd (omega arith)
 home_there {T} (suc n) zero h = refl
 home_there {T} (suc n) (suc p) h = home_there {T = T} n p (omega arith)
 
-opens_whole : {T : Type 0} (belongs : ℕ → T → Type 0) (n : ℕ) → Keeps belongs (opening (replicate n 2) (replicate n None) (knows [] n))
+opens_whole : {T : Type 0} (belongs : ℕ → T → Type 0) (n : ℕ) → AreKept belongs (opening (replicate n 2) (replicate n None) (knows [] n))
 opens_whole {T} belongs n =
     let long = length_homes T n in
     record {
@@ -28,6 +28,6 @@ opens_whole {T} belongs n =
     }
 
 -- the words stand at the front of a longer row of them
-pub opens : {T : Type 0} (belongs : ℕ → T → Type 0) (n most : ℕ) → n ≤ most → Keeps belongs (opening (take n (replicate most 2)) (replicate n None) (knows [] n))
+pub opens : {T : Type 0} (belongs : ℕ → T → Type 0) (n most : ℕ) → n ≤ most → AreKept belongs (opening (take n (replicate most 2)) (replicate n None) (knows [] n))
 opens {T} belongs n most h =
-    subst (λ (words : List ℕ). Keeps belongs (opening words (replicate n None) (knows [] n))) (sym (take-replicate n most 2 h)) (opens_whole belongs n)
+    subst (λ (words : List ℕ). AreKept belongs (opening words (replicate n None) (knows [] n))) (sym (take-replicate n most 2 h)) (opens_whole belongs n)

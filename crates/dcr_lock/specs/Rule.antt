@@ -59,6 +59,6 @@ module _ {T : Type 0} (belongs : ℕ → T → Type 0) (s : State (Option T) Sea
   IsKept = IsFree ⊎ (IsTaken ⊎ IsEmpty)
 
 -- each place is free, taken or empty
-pub record Keeps {T : Type 0} (belongs : ℕ → T → Type 0) (s : State (Option T) SeatView) : Type 0 where
+pub record AreKept {T : Type 0} (belongs : ℕ → T → Type 0) (s : State (Option T) SeatView) : Type 0 where
   pub words : length s.words ≡ length s.homes
   pub each : (p : ℕ) → p < length s.homes → IsKept belongs s p

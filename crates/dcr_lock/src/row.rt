@@ -83,8 +83,8 @@ impl<T: Placed> Row<T> {
         let shared = &self.table.shared;
         let (_, mut seat) = shared.load_new_seat::<Sit>(place as usize);
         let waiters = &self.waiters[place as usize];
-        let value = seats::take(shared, waiters, rt, &mut seat, place);
-        Grip::new(shared, waiters, seat, place).join(value)
+        let (value, waited) = seats::take(shared, waiters, rt, &mut seat, place);
+        Grip::new(shared, waiters, seat, place, waited).join(value)
     }
 
     /// Waits until the place is free, and changes its value under the lock. `change` is handed a value

@@ -31,9 +31,9 @@ pub struct KeepsPlaces<T> {
 
 impl<T: Placed> TableRule<Option<T>, SeatView, u16> for KeepsPlaces<T> {
     ghost use Rattle.std.specs.Prelude.{[]};
-    ghost use Rattle.dcr_lock.specs.Rule.{Keeps, knows};
+    ghost use Rattle.dcr_lock.specs.Rule.{AreKept, knows};
 
-    ghost holds = { λ _. Keeps T.belongs };
+    ghost holds = { λ _. AreKept T.belongs };
 
     ghost first = { knows [] };
 }

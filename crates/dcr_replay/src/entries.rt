@@ -30,10 +30,10 @@ use dcr_set::NoMemory;
 use std::alloc::Global;
 
 // How many entries a history has at most.
-const MOST_ENTRIES: u32 = 200_000;
+const MAX_ENTRIES: u32 = 200_000;
 
 // How many sessions there are at most.
-const MOST_SESSIONS: usize = 1024;
+const MAX_SESSIONS: usize = 1024;
 
 /// A history under check: the engine at the marking after the entries that were read, and what the next one
 /// must say of itself.
@@ -69,7 +69,7 @@ impl<'g, 'n> Run<'g, 'n> {
     {
         let tracked = tracked_by_each(alloc, graph, cover)?;
         let plain = Plain::new(alloc, graph, opening)?;
-        let made = vec![in alloc; 0; MOST_SESSIONS]?;
+        let made = vec![in alloc; 0; MAX_SESSIONS]?;
         Ok(Run {
             graph,
             cover,
@@ -167,7 +167,7 @@ impl<'g, 'n> Run<'g, 'n> {
     fn is_over(&self) -> bool
         ensures { result ≡ (self.now.faulted || nat_le 200000 self.now.len) }
     {
-        self.faulted || self.len >= MOST_ENTRIES
+        self.faulted || self.len >= MAX_ENTRIES
     }
 
     // The entry that a line tells, whatever its outcome. None exactly where it tells none that may come next.
@@ -253,8 +253,8 @@ fn step(plain: &mut Plain<'_>, cover: &Cover, entry: &Entry)
     }
 }
 
-// Whether the outcome is that of an event that was executed.
-fn is_done(outcome: &Outcome) -> bool
+/// Whether the outcome is that of an event that was executed.
+pub fn is_done(outcome: &Outcome) -> bool
     ensures { result ≡ is_done outcome.now }
 {
     matches!(outcome, Outcome::Done)

@@ -5,8 +5,9 @@ use Rattle.std.specs.List.{slice_get}
 use Rattle.std.specs.Io.KnownBytes.{Appends}
 use Rattle.std.proofs.lemmas.List.{append-nil, take_at, take-append-drop, length-append, length-drop, drop_more}
 use Rattle.std.proofs.lemmas.Option.{slice_get_within, get_or_from_slice_get}
-use Rattle.dcr_base.specs.Count.{Rose}
-use Rattle.dcr_report.specs.Passed.{Passes, StopsWithin}
+use Rattle.dcr_base.specs.Count.{Fails}
+use Rattle.dcr_base.specs.Side.{Adds, Side, Stopped}
+use Rattle.dcr_report.specs.Passed.{CountsStop, Passed, Passes, StopsWithin}
 use Rattle.dcr_report.specs.Report.{line, lines_text}
 use Rattle.dcr_report.specs.declared.report.ReportStop.{ReportStop}
 use Rattle.dcr_report.specs.declared.report.ReportStop.TheVariants.{WriteFault, NoMemory}
@@ -46,39 +47,35 @@ Passes-next {a} {b} {c} {start} {held} {left} {text} {whole} rest before here = 
 }
 
 -- a stop in the next text of the whole
-pub StopsWithin-next : {stop told : ReportStop} {a b c : Option (List ℕ)} {start held text whole : List ℕ} {e f g : ℕ} (rest : List ℕ)
-    → Passes a b start (held ++ (text ++ rest)) whole → f ≡ e → StopsWithin told b c held text f g → stop ≡ told → StopsWithin stop a c start whole e g
-StopsWithin-next {g = g} rest before same here is = record {
+pub StopsWithin-next : {stop told : ReportStop} {a b c : Side} {start held text whole : List ℕ} (rest : List ℕ)
+    → Passes a.bytes b.bytes start (held ++ (text ++ rest)) whole → b.faults ≡ a.faults → StopsWithin told b c held text → stop ≡ told → StopsWithin stop a c start whole
+StopsWithin-next {told = told} {a = a} {c = c} rest before same here is = record {
   left = here.left ++ rest;
   passed = Passes-next rest before here.passed;
   not_all = let some = here.not_all in omega (arith, length-append here.left rest);
-  counted = λ fault. let To : ℕ → Type 0 = λ faults. Rose faults g in subst To same (here.counted (sym is ∙ fault));
-  uncounted = λ none. here.uncounted (sym is ∙ none) ∙ same;
+  counts = subst (λ s. CountsStop s a.faults c.faults) (sym is) (subst (λ (f : ℕ). CountsStop told f c.faults) same here.counts);
 }
 
-pub StopsWithin-from : {stop : ReportStop} {a b : Option (List ℕ)} {held grown text : List ℕ} {f g : ℕ}
-    → grown ≡ held ++ text → StopsWithin stop a b grown [] f g → StopsWithin stop a b held text f g
-StopsWithin-from e here = record { left = here.left; passed = Passes-from e here.passed; not_all = here.not_all; counted = here.counted; uncounted = here.uncounted }
+pub StopsWithin-from : {stop : ReportStop} {a b : Side} {held grown text : List ℕ} → grown ≡ held ++ text → StopsWithin stop a b grown [] → StopsWithin stop a b held text
+StopsWithin-from e here = record { left = here.left; passed = Passes-from e here.passed; not_all = here.not_all; counts = here.counts }
 
 -- memory ran out before the sink was asked
-pub no_memory_stops : (a : Option (List ℕ)) (held text : List ℕ) (f : ℕ) (stop : ReportStop) → 0 < length text → stop ≡ NoMemory → StopsWithin stop a a held text f f
-no_memory_stops a held text f stop some is = record {
+pub no_memory_stops : (a : Side) (held text : List ℕ) (stop : ReportStop) → 0 < length text → stop ≡ NoMemory → StopsWithin stop a a held text
+no_memory_stops a held text stop some is = record {
   left = held ++ text;
-  passed = Passes-held a held (held ++ text) text refl;
+  passed = Passes-held a.bytes held (held ++ text) text refl;
   not_all = omega (arith, length-append held text, some);
-  counted = λ fault. let two : NoMemory ≡ WriteFault = sym is ∙ fault in cc;
-  uncounted = λ none. refl;
+  counts = subst (λ s. CountsStop s a.faults a.faults) (sym is) refl;
 }
 
 -- the sink failed in what was held
-pub fault_stops : (stop : ReportStop) (a b : Option (List ℕ)) (held bytes : List ℕ) (n f g : ℕ) → stop ≡ WriteFault → bytes ≡ held → Appends a b (take n bytes) → n < length bytes → Rose f g
-    → StopsWithin stop a b held [] f g
-fault_stops stop a b held bytes n f g is same front less rose = record {
+pub fault_stops : (stop : ReportStop) (a b : Side) (held bytes : List ℕ) (n : ℕ) → stop ≡ WriteFault → bytes ≡ held → Appends a.bytes b.bytes (take n bytes) → n < length bytes
+    → Fails a.faults b.faults → StopsWithin stop a b held []
+fault_stops stop a b held bytes n is same front less fails = record {
   left = drop n bytes;
   passed = record { moved = take n bytes; took = front; joined = take-append-drop n bytes ∙ same ∙ sym (append-nil held) };
   not_all = omega (arith, length-drop n bytes, less);
-  counted = λ fault. rose;
-  uncounted = λ none. let two : WriteFault ≡ NoMemory = sym is ∙ none in cc;
+  counts = subst (λ s. CountsStop s a.faults b.faults) (sym is) fails;
 }
 
 -- the front of it
@@ -113,14 +110,13 @@ pub Passes-left : {a b : Option (List ℕ)} {start left same whole : List ℕ} �
 Passes-left e p = record { moved = p.moved; took = p.took; joined = ap (λ l. p.moved ++ l) e ∙ p.joined }
 
 -- memory ran out on the way
-pub no_memory_after : {a b : Option (List ℕ)} {start whole : List ℕ} (left ending : List ℕ) (f g : ℕ) (stop : ReportStop) → 0 < length ending → stop ≡ NoMemory → g ≡ f
-    → Passes a b start (left ++ ending) whole → StopsWithin stop a b start whole f g
-no_memory_after left ending f g stop some is same p = record {
+pub no_memory_after : {a b : Side} {start whole : List ℕ} (left ending : List ℕ) (stop : ReportStop) → 0 < length ending → stop ≡ NoMemory → b.faults ≡ a.faults
+    → Passes a.bytes b.bytes start (left ++ ending) whole → StopsWithin stop a b start whole
+no_memory_after {a = a} {b = b} left ending stop some is same p = record {
   left = left ++ ending;
   passed = p;
   not_all = omega (arith, length-append left ending, some);
-  counted = λ fault. let two : NoMemory ≡ WriteFault = sym is ∙ fault in cc;
-  uncounted = λ none. same;
+  counts = subst (λ s. CountsStop s a.faults b.faults) (sym is) same;
 }
 
 -- the same, as an answer of an index
@@ -128,16 +124,16 @@ pub drop_at_read : {X : Type 0} (xs : List X) (i : ℕ) (x : X) → i < length x
 drop_at_read xs i x within e = drop_more xs i x within ∙ ap (λ y. y ∷ drop (i + 1) xs) (sym e)
 
 -- the sink failed in what is left at the end
-pub fault_at_end : {a b c : Option (List ℕ)} {start held whole : List ℕ} (bytes : List ℕ) (n e f g : ℕ) → Passes a b start held whole → f ≡ e
-    → bytes ≡ held → Appends b c (take n bytes) → n < length bytes → Rose f g → StopsWithin WriteFault a c start whole e g
-fault_at_end {b = b} {c = c} {held = held} bytes n e f g before unmoved same front less rose =
-    StopsWithin-next {text = []} [] (Passes-left (append-nil held) before) unmoved (fault_stops WriteFault b c held bytes n f g refl same front less rose) refl
+pub fault_at_end : {a b c : Side} {start held whole : List ℕ} (bytes : List ℕ) (n : ℕ) → Passed a b start held whole
+    → bytes ≡ held → Appends b.bytes c.bytes (take n bytes) → n < length bytes → Fails b.faults c.faults → StopsWithin WriteFault a c start whole
+fault_at_end {b = b} {c = c} {held = held} bytes n before same front less fails =
+    StopsWithin-next {text = []} [] (Passes-left (append-nil held) before.0) before.1 (fault_stops WriteFault b c held bytes n refl same front less fails) refl
 
 -- what a stop leaves in the sink, where nothing was held: a front, and not all
-pub part_at_stop : {stop : ReportStop} {a b : Option (List ℕ)} {held text : List ℕ} {f g : ℕ} → held ≡ [] → StopsWithin stop a b held text f g
-    → (n : ℕ) × (n < length text) × Appends a b (take n text)
+pub part_at_stop : {stop : ReportStop} {a b : Side} {held text : List ℕ} → held ≡ [] → StopsWithin stop a b held text → Stopped text a b
 part_at_stop {a = a} {b = b} {text = text} e s =
-    let p : Passes a b [] s.left text = subst (λ h. Passes a b h s.left text) e s.passed in (length p.moved, not_all_passed p s.not_all, front_passed p)
+    let p : Passes a.bytes b.bytes [] s.left text = subst (λ h. Passes a.bytes b.bytes h s.left text) e s.passed in
+    record { count = length p.moved; fewer = not_all_passed p s.not_all; wrote = front_passed p }
 
 -- lines are some bytes where there is one
 pub lines_some : (lines : List (List ℕ)) → 0 < length lines → 0 < length (lines_text lines)
@@ -149,10 +145,10 @@ pub line_some : (text : List ℕ) → 0 < length (line text)
 line_some text = let one = length-append text (10 ∷ []) in omega (arith, one)
 
 -- the sink took the last of it
-pub all_at_end : (a b c : Option (List ℕ)) (start held bytes whole : List ℕ) → start ≡ [] → bytes ≡ held → Passes a b start held whole → Appends b c bytes → Appends a c whole
-all_at_end a b c start held bytes whole none same p last =
+pub all_at_end : (a b c : Side) (start held bytes whole : List ℕ) → start ≡ [] → bytes ≡ held → Passed a b start held whole → Appends b.bytes c.bytes bytes → c.faults ≡ b.faults → Adds whole a c
+all_at_end a b c start held bytes whole none same (p, unfailed) last still =
     let e : p.moved ++ bytes ≡ whole = ap (λ l. p.moved ++ l) same ∙ p.joined ∙ ap (λ l. l ++ whole) none in
-    subst (λ l. Appends a c l) e (Appends-both a b c p.moved bytes p.took last)
+    (subst (λ l. Appends a.bytes c.bytes l) e (Appends-both a.bytes b.bytes c.bytes p.moved bytes p.took last), still ∙ unfailed)
 
 -- what holds at all holds at an error
 pub OnErr-of : {T E : Type 0} (r : Result T E) (P : Type 0) → P → OnErr r P

@@ -41,8 +41,8 @@ abbrev pub head_lines : Nest → Owners → List (List ℕ) → Marking → List
 head_lines N C names M = version_text N.version ∷ case_lines N C names M
 
 -- The lines of a case: what its runs begin with, whatever their sessions. The atoms have the names of their nodes.
-abbrev pub case_text : Nest → Owners → Marking → List ℕ
-case_text N C M = lines_text (case_lines N C (of_atoms (parents_of N.nodes) (names_of N.nodes)) M)
+abbrev pub digested_text : Nest → Owners → Marking → List ℕ
+digested_text N C M = lines_text (case_lines N C (of_atoms (parents_of N.nodes) (names_of N.nodes)) M)
 
 -- a line for each entry, the first at this place
 unfoldable pub entry_lines : List (List ℕ) → List (List ℕ) → ℕ → List Entry → List (List ℕ)

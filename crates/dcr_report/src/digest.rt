@@ -2,7 +2,7 @@ ghost use Rattle.std.specs.Prelude.{◌≡◌, length, IfOk};
 ghost use Rattle.std.specs.List.{All};
 ghost use Rattle.dcr_graph.specs.Projection.{HasRoom};
 ghost use Rattle.dcr_nest.specs.FlatRelation.{IsFlattening};
-ghost use Rattle.dcr_report.specs.Report.{case_text};
+ghost use Rattle.dcr_report.specs.Report.{digested_text};
 ghost use Rattle.sha2.specs.Sha256.{sha256};
 
 use crate::lines::put_case;
@@ -25,7 +25,7 @@ pub fn case_digest(
     requires flattening { IsFlattening nested.now graph.now }
     requires rooms { All (λ set. length set ≡ length graph.now.names) cover.now.owned }
     requires opening { HasRoom (length graph.now.names) opening.now }
-    ensures { IfOk result (λ digest. digest ≡ sha256 (case_text nested.now cover.now opening.now)) }
+    ensures { IfOk result (λ digest. digest ≡ sha256 (digested_text nested.now cover.now opening.now)) }
 {
     let _sites = cover.site_names();
     let mut text = Vec::new(alloc);

@@ -9,7 +9,7 @@ ghost use Rattle.dcr_line.specs.Line.{entry_text};
 ghost use Rattle.dcr_line.specs.Fits.{FitsEntry};
 ghost use Rattle.dcr_report.specs.Report.{line, lines_text, version_text, case_lines, head_lines, entry_lines, site_text, site_lines, verdict_text, end_lines};
 ghost use Rattle.dcr_report.specs.FitsClosed.{FitsClosed};
-ghost use Rattle.dcr_report.specs.Passed.{Passes, StopsWithin};
+ghost use Rattle.dcr_report.specs.Passed.{Passed, StopsWithin};
 
 use crate::ReportStop;
 use crate::write::{write_end, write_site, write_verdict};
@@ -38,15 +38,10 @@ pub(crate) fn pass_head<O: Sink>(
 ) -> Result<(), ReportStop>
     requires rooms { atoms_of cover.now.owned ≡ length graph.now.names }
     requires fits { FitsClosed (length cover.now.names) (length graph.now.names) closed.now }
-    ensures passed { OnOk result (Passes
-        (O.taken sink.old) (O.taken sink.new) held.old.items held.new.items
+    ensures passed { OnOk result (Passed (O.takes sink.old) (O.takes sink.new) held.old.items held.new.items
         (lines_text (head_lines nested.now cover.now graph.now.names closed.now.opening))) }
-    ensures stopped { IfErr result (λ stop. StopsWithin stop
-        (O.taken sink.old) (O.taken sink.new) held.old.items
-        (lines_text (head_lines nested.now cover.now graph.now.names closed.now.opening))
-        (O.write_faults sink.old) (O.write_faults sink.new)) }
-    ensures no_fault { OnOk result (O.write_faults sink.new ≡ O.write_faults sink.old) }
-    ensures never_falls { O.write_faults sink.old ≤ O.write_faults sink.new }
+    ensures stopped { IfErr result (λ stop. StopsWithin stop (O.takes sink.old) (O.takes sink.new) held.old.items
+        (lines_text (head_lines nested.now cover.now graph.now.names closed.now.opening))) }
 {
     put_head(alloc, nested, graph, cover, closed, held)?;
     pass_full(held, sink)
@@ -111,15 +106,10 @@ pub(crate) fn pass_entries<O: Sink>(
     sink: &mut O,
 ) -> Result<(), ReportStop>
     requires { All (FitsEntry (length cover.now.names) (length graph.now.names)) history.now.entries }
-    ensures passed { OnOk result (Passes
-        (O.taken sink.old) (O.taken sink.new) held.old.items held.new.items
+    ensures passed { OnOk result (Passed (O.takes sink.old) (O.takes sink.new) held.old.items held.new.items
         (lines_text (entry_lines cover.now.names graph.now.names 0 history.now.entries))) }
-    ensures stopped { IfErr result (λ stop. StopsWithin stop
-        (O.taken sink.old) (O.taken sink.new) held.old.items
-        (lines_text (entry_lines cover.now.names graph.now.names 0 history.now.entries))
-        (O.write_faults sink.old) (O.write_faults sink.new)) }
-    ensures no_fault { OnOk result (O.write_faults sink.new ≡ O.write_faults sink.old) }
-    ensures never_falls { O.write_faults sink.old ≤ O.write_faults sink.new }
+    ensures stopped { IfErr result (λ stop. StopsWithin stop (O.takes sink.old) (O.takes sink.new) held.old.items
+        (lines_text (entry_lines cover.now.names graph.now.names 0 history.now.entries))) }
 {
     // Room for one entry, into which each is read in turn.
     let mut entry = Entry {
@@ -144,15 +134,10 @@ fn pass_entry<O: Sink>(
     sink: &mut O,
 ) -> Result<(), ReportStop>
     requires { FitsEntry (length cover.now.names) (length graph.now.names) entry.now }
-    ensures passed { OnOk result (Passes
-        (O.taken sink.old) (O.taken sink.new) held.old.items held.new.items
+    ensures passed { OnOk result (Passed (O.takes sink.old) (O.takes sink.new) held.old.items held.new.items
         (line (entry_text cover.now.names graph.now.names place entry.now))) }
-    ensures stopped { IfErr result (λ stop. StopsWithin stop
-        (O.taken sink.old) (O.taken sink.new) held.old.items
-        (line (entry_text cover.now.names graph.now.names place entry.now))
-        (O.write_faults sink.old) (O.write_faults sink.new)) }
-    ensures no_fault { OnOk result (O.write_faults sink.new ≡ O.write_faults sink.old) }
-    ensures never_falls { O.write_faults sink.old ≤ O.write_faults sink.new }
+    ensures stopped { IfErr result (λ stop. StopsWithin stop (O.takes sink.old) (O.takes sink.new) held.old.items
+        (line (entry_text cover.now.names graph.now.names place entry.now))) }
 {
     write_entry(place, entry, graph, cover, held)?;
     end_line(held)?;
@@ -171,15 +156,10 @@ pub(crate) fn pass_sites<O: Sink>(
     requires as_many { length marks.now ≡ length sites.now }
     requires fit { All (λ (mark : SiteMark). FitsAtoms (length graph.now.names)
         mark.executed mark.pending mark.included) marks.now }
-    ensures passed { OnOk result (Passes
-        (O.taken sink.old) (O.taken sink.new) held.old.items held.new.items
+    ensures passed { OnOk result (Passed (O.takes sink.old) (O.takes sink.new) held.old.items held.new.items
         (lines_text (site_lines graph.now.names sites.now marks.now))) }
-    ensures stopped { IfErr result (λ stop. StopsWithin stop
-        (O.taken sink.old) (O.taken sink.new) held.old.items
-        (lines_text (site_lines graph.now.names sites.now marks.now))
-        (O.write_faults sink.old) (O.write_faults sink.new)) }
-    ensures no_fault { OnOk result (O.write_faults sink.new ≡ O.write_faults sink.old) }
-    ensures never_falls { O.write_faults sink.old ≤ O.write_faults sink.new }
+    ensures stopped { IfErr result (λ stop. StopsWithin stop (O.takes sink.old) (O.takes sink.new) held.old.items
+        (lines_text (site_lines graph.now.names sites.now marks.now))) }
 {
     for i in 0..sites.len() {
         let mark = marks.get(i).unwrap();
@@ -197,15 +177,10 @@ fn pass_site<O: Sink>(
 ) -> Result<(), ReportStop>
     requires { FitsAtoms (length graph.now.names)
         mark.now.executed mark.now.pending mark.now.included }
-    ensures passed { OnOk result (Passes
-        (O.taken sink.old) (O.taken sink.new) held.old.items held.new.items
+    ensures passed { OnOk result (Passed (O.takes sink.old) (O.takes sink.new) held.old.items held.new.items
         (line (site_text graph.now.names site.now mark.now))) }
-    ensures stopped { IfErr result (λ stop. StopsWithin stop
-        (O.taken sink.old) (O.taken sink.new) held.old.items
-        (line (site_text graph.now.names site.now mark.now))
-        (O.write_faults sink.old) (O.write_faults sink.new)) }
-    ensures no_fault { OnOk result (O.write_faults sink.new ≡ O.write_faults sink.old) }
-    ensures never_falls { O.write_faults sink.old ≤ O.write_faults sink.new }
+    ensures stopped { IfErr result (λ stop. StopsWithin stop (O.takes sink.old) (O.takes sink.new) held.old.items
+        (line (site_text graph.now.names site.now mark.now))) }
 {
     put_site(site, mark, graph, held)?;
     pass_full(held, sink)
@@ -248,13 +223,8 @@ fn put_verdict(waits: Option<EventId>, graph: &Graph, held: &mut Vec<u8>) -> Res
 
 // Hands on what is held, once there is much of it.
 fn pass_full<O: Sink>(held: &mut Vec<u8>, sink: &mut O) -> Result<(), ReportStop>
-    ensures passed { OnOk result (Passes
-        (O.taken sink.old) (O.taken sink.new) held.old.items held.new.items []) }
-    ensures stopped { IfErr result (λ stop. StopsWithin stop
-        (O.taken sink.old) (O.taken sink.new) held.old.items []
-        (O.write_faults sink.old) (O.write_faults sink.new)) }
-    ensures no_fault { OnOk result (O.write_faults sink.new ≡ O.write_faults sink.old) }
-    ensures never_falls { O.write_faults sink.old ≤ O.write_faults sink.new }
+    ensures passed { OnOk result (Passed (O.takes sink.old) (O.takes sink.new) held.old.items held.new.items []) }
+    ensures stopped { IfErr result (λ stop. StopsWithin stop (O.takes sink.old) (O.takes sink.new) held.old.items []) }
 {
     if held.len() > FULL {
         write_all(sink, held)?;

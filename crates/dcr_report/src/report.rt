@@ -1,7 +1,6 @@
 ghost use Rattle.std.specs.Prelude.{◌≡◌, ◌≢◌, ℕ, ◌<◌, ◌≤◌, length, take, Some, OnOk, IfErr, OnErr};
 ghost use Rattle.std.specs.List.{All};
-ghost use Rattle.std.specs.Io.KnownBytes.{Appends};
-ghost use Rattle.dcr_base.specs.Count.{Rose};
+ghost use Rattle.dcr_base.specs.Side.{Adds, Stopped};
 ghost use Rattle.dcr_graph.specs.Cause.{waits};
 ghost use Rattle.dcr_graph.specs.GraphValue.{rules_of};
 ghost use Rattle.dcr_graph.specs.Projection.{HasRoom};
@@ -10,7 +9,7 @@ ghost use Rattle.dcr_journal.specs.Run.{IsLegal, after, marks_at};
 ghost use Rattle.dcr_report.specs.Report.{report_text, told_text};
 ghost use Rattle.dcr_report.specs.FitsClosed.{FitsClosed};
 ghost use Rattle.dcr_report.specs.Stop.{message_of};
-ghost use Rattle.dcr_report.specs.Passed.{Passes, StopsWithin};
+ghost use Rattle.dcr_report.specs.Passed.{CountsStop, Passed, StopsWithin};
 
 use crate::lines::{pass_entries, pass_head, pass_sites, put_end};
 use dcr_base::{Sink, write_all};
@@ -89,17 +88,9 @@ pub fn write_report<O: Sink>(
         (after (rules_of graph.now) closed.now.opening closed.now.history.entries) }
     requires verdict { closed.now.waits ≡ waits (length graph.now.names)
         (after (rules_of graph.now) closed.now.opening closed.now.history.entries) }
-    ensures all { OnOk result (Appends (O.taken sink.old) (O.taken sink.new)
-        (report_text nested.now cover.now closed.now.opening closed.now.history.entries)) }
-    ensures not_all { OnErr result ((n : ℕ)
-        × (n < length (report_text nested.now cover.now closed.now.opening closed.now.history.entries))
-        × Appends (O.taken sink.old) (O.taken sink.new)
-        (take n (report_text nested.now cover.now closed.now.opening closed.now.history.entries))) }
-    ensures counted { result ≡ Err ReportStop.WriteFault
-        → Rose (O.write_faults sink.old) (O.write_faults sink.new) }
-    ensures no_fault { result ≢ Err ReportStop.WriteFault
-        → O.write_faults sink.new ≡ O.write_faults sink.old }
-    ensures never_falls { O.write_faults sink.old ≤ O.write_faults sink.new }
+    ensures all { OnOk result (Adds (report_text nested.now cover.now closed.now.opening closed.now.history.entries) (O.takes sink.old) (O.takes sink.new)) }
+    ensures not_all { OnErr result (Stopped (report_text nested.now cover.now closed.now.opening closed.now.history.entries) (O.takes sink.old) (O.takes sink.new)) }
+    ensures counts { IfErr result (λ stop. CountsStop stop (O.takes sink.old).faults (O.takes sink.new).faults) }
 {
     write_told(alloc, nested, graph, cover, closed, sink)
 }
@@ -115,17 +106,9 @@ pub(crate) fn write_told<O: Sink>(
 ) -> Result<(), ReportStop>
     requires rooms { All (λ set. length set ≡ length graph.now.names) cover.now.owned }
     requires fits { FitsClosed (length cover.now.owned) (length graph.now.names) closed.now }
-    ensures all { OnOk result (Appends (O.taken sink.old) (O.taken sink.new)
-        (told_text nested.now cover.now graph.now.names closed.now)) }
-    ensures not_all { OnErr result ((n : ℕ)
-        × (n < length (told_text nested.now cover.now graph.now.names closed.now))
-        × Appends (O.taken sink.old) (O.taken sink.new)
-        (take n (told_text nested.now cover.now graph.now.names closed.now))) }
-    ensures counted { result ≡ Err ReportStop.WriteFault
-        → Rose (O.write_faults sink.old) (O.write_faults sink.new) }
-    ensures no_fault { result ≢ Err ReportStop.WriteFault
-        → O.write_faults sink.new ≡ O.write_faults sink.old }
-    ensures never_falls { O.write_faults sink.old ≤ O.write_faults sink.new }
+    ensures all { OnOk result (Adds (told_text nested.now cover.now graph.now.names closed.now) (O.takes sink.old) (O.takes sink.new)) }
+    ensures not_all { OnErr result (Stopped (told_text nested.now cover.now graph.now.names closed.now) (O.takes sink.old) (O.takes sink.new)) }
+    ensures counts { IfErr result (λ stop. CountsStop stop (O.takes sink.old).faults (O.takes sink.new).faults) }
 {
     let mut held = Vec::new(alloc);
     pass_report(alloc, nested, graph, cover, closed, &mut held, sink)?;
@@ -145,15 +128,10 @@ fn pass_report<O: Sink>(
 ) -> Result<(), ReportStop>
     requires rooms { All (λ set. length set ≡ length graph.now.names) cover.now.owned }
     requires fits { FitsClosed (length cover.now.owned) (length graph.now.names) closed.now }
-    ensures passed { OnOk result (Passes
-        (O.taken sink.old) (O.taken sink.new) held.old.items held.new.items
+    ensures passed { OnOk result (Passed (O.takes sink.old) (O.takes sink.new) held.old.items held.new.items
         (told_text nested.now cover.now graph.now.names closed.now)) }
-    ensures stopped { IfErr result (λ stop. StopsWithin stop
-        (O.taken sink.old) (O.taken sink.new) held.old.items
-        (told_text nested.now cover.now graph.now.names closed.now)
-        (O.write_faults sink.old) (O.write_faults sink.new)) }
-    ensures no_fault { OnOk result (O.write_faults sink.new ≡ O.write_faults sink.old) }
-    ensures never_falls { O.write_faults sink.old ≤ O.write_faults sink.new }
+    ensures stopped { IfErr result (λ stop. StopsWithin stop (O.takes sink.old) (O.takes sink.new) held.old.items
+        (told_text nested.now cover.now graph.now.names closed.now)) }
 {
     let sites = cover.site_names();
     pass_head(alloc, nested, graph, cover, closed, held, sink)?;

@@ -43,11 +43,9 @@ impl Source for PoliteLink {
     ghost use Rattle.std.specs.Prelude.{◌≡◌, None, true};
     ghost use Rattle.dcr_base.specs.Side.{side};
 
-    ghost left = { λ _. None };
+    ghost gives = { λ link. side None link.early };
 
     ghost has_ended = { λ link. link.ended ≡ true };
-
-    ghost read_faults = { λ link. link.early };
 
     ghost sink_side = { λ link. side None link.unkept };
 
@@ -82,9 +80,7 @@ impl Sink for PoliteLink {
     ghost use Rattle.std.specs.Prelude.{None};
     ghost use Rattle.dcr_base.specs.Side.{side};
 
-    ghost taken = { λ _. None };
-
-    ghost write_faults = { λ link. link.unkept };
+    ghost takes = { λ link. side None link.unkept };
 
     ghost source_side = { λ link. side None link.early };
 
@@ -102,14 +98,11 @@ impl Sink for PoliteLink {
 
 impl Spent for PoliteLink {
     ghost use Rattle.std.specs.Prelude.{None};
+    ghost use Rattle.dcr_base.specs.Side.{side};
 
-    ghost unread = { λ _. None };
+    ghost unread = { λ link. side None link.early };
 
-    ghost sent = { λ _. None };
-
-    ghost failed_reads = { λ link. link.early };
-
-    ghost failed_writes = { λ link. link.unkept };
+    ghost sent = { λ link. side None link.unkept };
 }
 
 impl Link for PoliteLink {
@@ -136,15 +129,18 @@ struct PoliteDoor {
 }
 
 impl Door for PoliteDoor {
-    ghost use Rattle.std.specs.Prelude.{◌≡◌, None};
+    ghost use Rattle.std.specs.Prelude.{◌≡◌, None, refl};
+    ghost use Rattle.dcr_base.specs.Link.{links_of};
+    ghost use Rattle.dcr_base.specs.Side.{side};
 
     type Link = PoliteLink;
 
-    ghost links = { λ _. None };
-
-    ghost is_shut = { λ door. door.lines ≡ None };
-
-    ghost faults = { λ _. 0 };
+    ghost tells = { record {
+      links = λ _. None;
+      is_shut = λ door. door.lines ≡ None;
+      faults = λ _. 0;
+      each = links_of (λ link. side None link.early) (λ link. side None link.unkept) (λ link. side None link.early) (λ link. side None link.unkept);
+    } };
 
     fn next(&mut self) -> Result<Option<PoliteLink>, Failed> {
         match self.lines.take() {
@@ -152,6 +148,8 @@ impl Door for PoliteDoor {
             None => Ok(None),
         }
     }
+
+    ghost each_is = { refl };
 
     ghost shut_has_none = { λ door shut. tt };
 }

@@ -4,5 +4,6 @@ pub mod Left
 pub mod Listening
 pub mod ShareModel
 pub mod ShareValue
+pub mod Stand
 pub mod TcpDoor
 pub mod TcpLink

@@ -1,5 +1,5 @@
-ghost use Rattle.std.specs.Prelude.{◌≡◌, ◌≤◌, Option, Result, Ok, None, OnOk, OnErr, ⊤};
-ghost use Rattle.dcr_base.specs.Count.{Rose};
+ghost use Rattle.std.specs.Prelude.{◌≡◌, Option, Result, Ok, None, ⊤};
+ghost use Rattle.dcr_base.specs.Count.{CountsFault};
 ghost use Rattle.dcr_base.specs.Door.{GivesNext, IsFresh};
 ghost use Rattle.dcr_base.specs.declared.failed.Failed.{Failed};
 
@@ -15,12 +15,10 @@ pub(crate) trait AskOnce: Door {
 
     /// Asks once, and hands on the answer.
     fn ask_once(&mut self) -> Result<Option<Self::Link>, Failed>
-        ensures given { GivesNext (Self.links self.old) (Self.links self.new) result }
-        ensures fresh { IsFresh Self.Link.read_faults Self.Link.write_faults result }
-        ensures shuts { result ≡ Ok None → Self.is_shut self.new }
-        ensures never_falls { Self.faults self.old ≤ Self.faults self.new }
-        ensures ok_counts_none { OnOk result (Self.faults self.new ≡ Self.faults self.old) }
-        ensures counted { OnErr result (Rose (Self.faults self.old) (Self.faults self.new)) }
+        ensures given { GivesNext (Self.tells.links self.old) (Self.tells.links self.new) result }
+        ensures fresh { IsFresh Self.tells.each result }
+        ensures shuts { result ≡ Ok None → Self.tells.is_shut self.new }
+        ensures counts { CountsFault result (Self.tells.faults self.old) (Self.tells.faults self.new) }
         ensures asked { answered self.old result self.new };
 }
 

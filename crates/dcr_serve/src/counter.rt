@@ -1,7 +1,8 @@
 ghost use Rattle.std.specs.Prelude.{◌≡◌, ◌≢◌, ◌+◌, ◌<◌, ◌≤◌, ◌↔◌, ◌⊎◌, ◌∷◌, [], None, IsNone, IfSome, IfNone, map};
-ghost use Rattle.dcr_base.specs.Count.{Rose};
+ghost use Rattle.dcr_base.specs.Link.{IsUnfailed};
 ghost use Rattle.dcr_serve.specs.Left.{numbers_from, AreAllButFirst, HasNumber};
-ghost use Rattle.dcr_serve.specs.declared.stand.DoorStand.TheVariants.{Open, Shut, Failed as HasFailed};
+ghost use Rattle.dcr_serve.specs.Stand.{StandsSo};
+ghost use Rattle.dcr_serve.specs.declared.stand.DoorStand.TheVariants.{Open};
 
 use crate::asking::AskOnce;
 use crate::{DeskName, DeskShare, DoorStand, Numbered};
@@ -28,7 +29,7 @@ impl<B: AskOnce, P: Numbered, N: DeskName<B::Link>> Model for Counter<B, P, N> {
 
     ghost view = { desk_of };
 
-    ghost invariant = { IsDesk P.number B.links B.is_shut B.faults N.items N.links N.faults };
+    ghost invariant = { IsDesk P.number B.tells N.items N.links N.faults };
 }
 
 impl<B: AskOnce, P: Numbered, N: DeskName<B::Link>> Counter<B, P, N> {
@@ -39,8 +40,8 @@ impl<B: AskOnce, P: Numbered, N: DeskName<B::Link>> Counter<B, P, N> {
         requires in_order { map P.number items.items ≡ numbers_from 0 N.items }
         requires some_part { 0 < blank.parts }
         requires ledger { (blank.name ≡ N.name) × (blank.parts ≡ N.parts) }
-        requires faults { B.faults door ≡ N.faults }
-        requires links { B.links door ≡ N.links }
+        requires faults { B.tells.faults door ≡ N.faults }
+        requires links { B.tells.links door ≡ N.links }
         ensures begun { result.0 ≡ record { door = door; items = items.items; taken = 0; stand = Open } }
         ensures parts { result.1.parts ≡ N.parts }
         ensures none_taken { result.1.taken ≡ 0 }
@@ -62,8 +63,7 @@ impl<B: AskOnce, P: Numbered, N: DeskName<B::Link>> Counter<B, P, N> {
         ensures number { IfSome result (λ given. P.number given.0 ≡ self.old.taken) }
         ensures named { IfSome result (λ given. P.number given.0 < N.items) }
         ensures link { IfSome result (λ given. HasNumber N.links (P.number given.0) given.1) }
-        ensures fresh { IfSome result (λ given.
-            (B.Link.read_faults given.1 ≡ 0) × (B.Link.write_faults given.1 ≡ 0)) }
+        ensures fresh { IfSome result (λ given. IsUnfailed B.tells.each given.1) }
         ensures taken { IfSome result (λ _. self.new.taken ≡ self.old.taken + 1) }
         ensures counted { IfSome result (λ _. share.new.taken ≡ share.old.taken + 1) }
         ensures parts { share.new.parts ≡ share.old.parts }
@@ -109,11 +109,8 @@ impl<B: AskOnce, P: Numbered, N: DeskName<B::Link>> Counter<B, P, N> {
         ensures handed_on { (result.0 ≡ self.door) × (result.1.items ≡ self.items) × (result.2 ≡ self.stand) }
         ensures items { map P.number result.1.items ≡ numbers_from share.taken N.items }
         ensures within { share.taken ≤ N.items }
-        ensures links { AreAllButFirst N.links share.taken (B.links result.0) }
-        ensures never_falls { N.faults ≤ B.faults result.0 }
-        ensures unfailed { result.2 ≢ HasFailed → B.faults result.0 ≡ N.faults }
-        ensures shut { result.2 ≡ Shut → B.is_shut result.0 }
-        ensures failed { result.2 ≡ HasFailed → Rose N.faults (B.faults result.0) }
+        ensures links { AreAllButFirst N.links share.taken (B.tells.links result.0) }
+        ensures stands { StandsSo B.tells N.faults result.2 result.0 }
     {
         let Counter {
             door,

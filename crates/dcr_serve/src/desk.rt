@@ -1,7 +1,7 @@
 ghost use Rattle.std.specs.Prelude.{◌≡◌, ◌≢◌, ◌+◌, ◌<◌, ◌≤◌, IfSome, IfNone, map};
-ghost use Rattle.dcr_base.specs.Count.{Rose};
+ghost use Rattle.dcr_base.specs.Link.{IsUnfailed};
 ghost use Rattle.dcr_serve.specs.Left.{numbers_from, AreAllButFirst, HasNumber};
-ghost use Rattle.dcr_serve.specs.declared.stand.DoorStand.TheVariants.{Shut, Failed};
+ghost use Rattle.dcr_serve.specs.Stand.{StandsSo};
 
 use crate::counter::Counter;
 use crate::{DeskName, DeskShare, DoorStand, Numbered};
@@ -23,8 +23,8 @@ impl<B: Door, P: Numbered, N: DeskName<B::Link>> Desk<B, P, N> {
         requires in_order { map P.number items.items ≡ numbers_from 0 N.items }
         requires some_part { 0 < blank.parts }
         requires ledger { (blank.name ≡ N.name) × (blank.parts ≡ N.parts) }
-        requires faults { B.faults door ≡ N.faults }
-        requires links { B.links door ≡ N.links }
+        requires faults { B.tells.faults door ≡ N.faults }
+        requires links { B.tells.links door ≡ N.links }
         ensures parts { result.1.parts ≡ N.parts }
         ensures none_taken { result.1.taken ≡ 0 }
     {
@@ -43,8 +43,7 @@ impl<B: Door, P: Numbered, N: DeskName<B::Link>> Desk<B, P, N> {
         ensures number { IfSome result (λ given.
             (share.old.taken ≤ P.number given.0) × (P.number given.0 < N.items)) }
         ensures link { IfSome result (λ given. HasNumber N.links (P.number given.0) given.1) }
-        ensures fresh { IfSome result (λ given.
-            (B.Link.read_faults given.1 ≡ 0) × (B.Link.write_faults given.1 ≡ 0)) }
+        ensures fresh { IfSome result (λ given. IsUnfailed B.tells.each given.1) }
         ensures counted { IfSome result (λ _. share.new.taken ≡ share.old.taken + 1) }
         ensures parts { share.new.parts ≡ share.old.parts }
         ensures none { IfNone result (share.new ≡ share.old) }
@@ -58,11 +57,8 @@ impl<B: Door, P: Numbered, N: DeskName<B::Link>> Desk<B, P, N> {
         requires { share.parts ≡ N.parts }
         ensures items { map P.number result.1.items ≡ numbers_from share.taken N.items }
         ensures within { share.taken ≤ N.items }
-        ensures links { AreAllButFirst N.links share.taken (B.links result.0) }
-        ensures never_falls { N.faults ≤ B.faults result.0 }
-        ensures unfailed { result.2 ≢ Failed → B.faults result.0 ≡ N.faults }
-        ensures shut { result.2 ≡ Shut → B.is_shut result.0 }
-        ensures failed { result.2 ≡ Failed → Rose N.faults (B.faults result.0) }
+        ensures links { AreAllButFirst N.links share.taken (B.tells.links result.0) }
+        ensures stands { StandsSo B.tells N.faults result.2 result.0 }
     {
         self.counter.into_inner().finish(share)
     }

@@ -1,5 +1,6 @@
 ghost use Rattle.std.specs.Prelude.{◌≡◌, ◌≢◌, ◌≤◌, ◌+◌, Ok, Err, None, IfOk, IsSome, IsNone, OnOk, OnErr};
 ghost use Rattle.std.specs.Io.Iter.{u64_saturate};
+ghost use Rattle.dcr_base.specs.Count.{CountsFault};
 ghost use Rattle.dcr_base.specs.Door.{GivesNext, IsFresh};
 ghost use Rattle.dcr_serve.specs.Listening.{Accepts, Asks, IsLocal, Listens, ToldAccept, is_lost};
 
@@ -40,7 +41,7 @@ impl<R: Listen> TcpDoor<R> {
         ensures port { port_of result ≡ port }
         ensures handle { handle_of result ≡ rt }
         ensures unlistening { listener_of result ≡ None }
-        ensures no_faults { ⟦<TcpDoor<R> as Door>⟧.faults result ≡ 0 }
+        ensures no_faults { ⟦<TcpDoor<R> as Door>⟧.tells.faults result ≡ 0 }
     {
         TcpDoor {
             rt,
@@ -111,29 +112,25 @@ fn is_lost(error: &io::Error) -> bool
 }
 
 impl<R: Listen> Door for TcpDoor<R> {
-    ghost use Rattle.std.specs.Prelude.{None};
+    ghost use Rattle.std.specs.Prelude.{None, refl};
     ghost use Rattle.dcr_serve.specs.TcpDoor.{failed_calls, port_of};
+    ghost use Rattle.dcr_serve.specs.TcpLink.{tcp_links};
 
     type Link = TcpLink;
 
-    ghost links = { λ _. None };
-
-    ghost is_shut = { λ _. ⊥ };
-
-    ghost faults = { failed_calls };
+    ghost tells = { record { links = λ _. None; is_shut = λ _. ⊥; faults = failed_calls; each = tcp_links } };
 
     fn next(&mut self) -> Result<Option<TcpLink>, Failed>
         ensures given { GivesNext None None result }
-        ensures fresh { IsFresh (λ link. link.faults.failed_reads) (λ link. link.faults.failed_writes) result }
+        ensures fresh { IsFresh tcp_links result }
         ensures never_shut { IfOk result IsSome }
         ensures shuts { result ≡ Ok None → ⊥ }
         ensures stays_shut { ⊥ → ⊥ }
         ensures gives_none { ⊥ → IfOk result IsNone }
         ensures port { port_of self.new ≡ port_of self.old }
-        ensures never_falls { failed_calls self.old ≤ failed_calls self.new }
+        ensures counts { CountsFault result (failed_calls self.old) (failed_calls self.new) }
 
         // The count is exact.
-        ensures ok_counts_none { OnOk result (failed_calls self.new ≡ failed_calls self.old) }
         ensures err_counts_one { OnErr result (failed_calls self.new ≡ u64_saturate (failed_calls self.old + 1)) }
 
         // What the handle and the listener were asked.
@@ -147,6 +144,8 @@ impl<R: Listen> Door for TcpDoor<R> {
             }
         }
     }
+
+    ghost each_is = { refl };
 
     ghost shut_has_none = { λ door never. absurd never };
 }

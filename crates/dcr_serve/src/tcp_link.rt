@@ -2,6 +2,7 @@ ghost use Rattle.std.specs.Prelude.{◌≡◌, ◌<◌, ◌≤◌, ◌+◌, Ok, 
 ghost use Rattle.std.specs.Io.{ReadsAtMost, WritesAtMost};
 ghost use Rattle.std.specs.Io.Iter.{u64_saturate};
 ghost use Rattle.std.specs.Io.KnownBytes.{ReadConsumes, WriteAppends};
+ghost use Rattle.dcr_base.specs.Count.{CountsFault};
 
 use dcr_base::{Failed, Link, Sink, Source, Spent, StdSink, StdSource};
 use std::marker::Model;
@@ -71,11 +72,9 @@ impl Source for TcpLink {
     ghost use Rattle.dcr_base.specs.Side.{side};
     ghost use Rattle.dcr_serve.specs.TcpLink.{untold};
 
-    ghost left = { λ _. untold };
+    ghost gives = { λ link. side untold link.faults.failed_reads };
 
     ghost has_ended = { λ link. IsTrue link.has_ended };
-
-    ghost read_faults = { λ link. link.faults.failed_reads };
 
     ghost sink_side = { λ link. side untold link.faults.failed_writes };
 
@@ -86,7 +85,7 @@ impl Source for TcpLink {
         ensures ends { result ≡ Ok 0 → 0 < length buf.new → IsTrue self.new.has_ended }
         ensures stays_ended { IsTrue self.old.has_ended → IsTrue self.new.has_ended }
         ensures gives_none { IsTrue self.old.has_ended → IfOk result (λ n. n ≡ 0) }
-        ensures never_falls { self.old.faults.failed_reads ≤ self.new.faults.failed_reads }
+        ensures counts { CountsFault result self.old.faults.failed_reads self.new.faults.failed_reads }
 
         // The count is exact, and that of the writes stays.
         ensures ok_counts_none { OnOk result (self.new.faults ≡ self.old.faults) }
@@ -119,9 +118,7 @@ impl Sink for TcpLink {
     ghost use Rattle.dcr_base.specs.Side.{side};
     ghost use Rattle.dcr_serve.specs.TcpLink.{untold};
 
-    ghost taken = { λ _. untold };
-
-    ghost write_faults = { λ link. link.faults.failed_writes };
+    ghost takes = { λ link. side untold link.faults.failed_writes };
 
     ghost source_side = { λ link. side untold link.faults.failed_reads };
 
@@ -129,7 +126,7 @@ impl Sink for TcpLink {
         ensures within { WritesAtMost result bytes.now }
         ensures appended { WriteAppends untold untold result bytes.now }
         ensures at_least_one { 0 < length bytes.now → IfOk result (λ n. 1 ≤ n) }
-        ensures never_falls { self.old.faults.failed_writes ≤ self.new.faults.failed_writes }
+        ensures counts { CountsFault result self.old.faults.failed_writes self.new.faults.failed_writes }
 
         // The count is exact, and what is read stays as it was.
         ensures ok_counts_none { OnOk result (self.new.faults ≡ self.old.faults) }
@@ -149,15 +146,12 @@ impl Sink for TcpLink {
 }
 
 impl Spent for TcpRest {
-    ghost use Rattle.std.specs.Prelude.{None};
+    ghost use Rattle.dcr_base.specs.Side.{side};
+    ghost use Rattle.dcr_serve.specs.TcpLink.{untold};
 
-    ghost unread = { λ _. None };
+    ghost unread = { λ rest. side untold rest.failed_reads };
 
-    ghost sent = { λ _. None };
-
-    ghost failed_reads = { λ rest. rest.failed_reads };
-
-    ghost failed_writes = { λ rest. rest.failed_writes };
+    ghost sent = { λ rest. side untold rest.failed_writes };
 }
 
 impl Link for TcpLink {

@@ -3,6 +3,7 @@ use Rattle.std.proofs.Common.{◌≡◌, ◌⊎◌, ℕ, ◌+◌, ◌<◌, ◌�
 use Rattle.std.specs.Prelude.{slice_get}
 use Rattle.std.proofs.lemmas.List.{append-nil, get_or_append_left, length-append}
 use Rattle.std.proofs.lemmas.Option.{get_or_from_slice_get, slice_get-get_or, slice_get_within}
+use Rattle.dcr_base.specs.Link.{Links}
 use Rattle.dcr_graph.specs.Rules.{Rules}
 use Rattle.dcr_graph.specs.declared.marking.Marking.{Marking}
 use Rattle.dcr_set.specs.EventSet.{Set}
@@ -16,13 +17,13 @@ use Rattle.dcr_cluster.specs.Calls.{Shows}
 use Rattle.dcr_cluster.specs.declared.halt.Halt.{Halt}
 use Rattle.dcr_cluster.specs.declared.halt.Halt.TheVariants.{Full, Stopped}
 use Rattle.dcr_link.specs.Replies.{Placed, Terms, call_of, made_since, replies}
-use Rattle.dcr_link.specs.Serving.{EndsBy, Served}
+use Rattle.dcr_link.specs.Serving.{AnyRose, EndsBy, Served}
 use Rattle.dcr_link.specs.declared.end.WorkCause.{WorkCause}
 use Rattle.dcr_link.specs.declared.end.WorkCause.TheVariants.{Ended, LinkFault, LongLine, ManyLines, Halted, NoMemory}
 use Rattle.dcr_link.specs.declared.end.WorkEnd.{WorkEnd}
 use Rattle.dcr_link.proofs.ReplyLemmas.{placed_seen}
 use Rattle.dcr_serving.specs.History.{pass_in}
-use Rattle.dcr_serving.specs.Serving.{HasFailed, IsServedOf, Tells, new_pass}
+use Rattle.dcr_serving.specs.Serving.{IsServedOf, new_pass}
 use Rattle.dcr_serving.specs.declared.end.LinkEnd.{LinkEnd}
 
 -- where a call halted nothing comes after what was seen
@@ -98,7 +99,7 @@ module _ {D : Type 0} (first : Option (Store D)) (capacity : ℕ) (terms : Terms
   }
 
 -- the session as the history tells it
-pub session_in : {D L R : Type 0} (tells : Tells L R) (G : Rules) (C : List Set) (M : Marking) (first : Option (Store D)) (capacity : ℕ) (terms : Terms) (links : Option (List L))
+pub session_in : {D L R : Type 0} (tells : Links L R) (G : Rules) (C : List Set) (M : Marking) (first : Option (Store D)) (capacity : ℕ) (terms : Terms) (links : Option (List L))
     (pass : PassValue) (end : LinkEnd L R) (H : List Entry) → HasMadeAll pass H → IsLegal G C M H → length H ≤ capacity
     → IsServedOf tells first capacity terms links pass end → IsServedOf tells first capacity terms links (pass_in H pass.session) end
 session_in tells G C M first capacity terms links pass end H all legal few over =
@@ -108,14 +109,13 @@ session_in tells G C M first capacity terms links pass end H all legal few over 
       number = over.number;
       session = over.session;
       served = record {
+        unfailed = over.served.unfailed;
         calls = over.served.calls ∙ all.made;
         serves = λ asked is_left.
             let told = over.served.serves asked is_left in
-            (told.0, told.1, served_in first capacity terms asked pass H told.0 (HasFailed tells end.rest) all shows end.end told.2);
+            (told.0, told.1, served_in first capacity terms asked pass H told.0 (AnyRose (tells.gives over.link).faults (tells.unread end.rest).faults (tells.takes over.link).faults (tells.sent end.rest).faults) all shows end.end told.2);
         ended = over.served.ended;
-        fault = over.served.fault;
-        no_read_fault = over.served.no_read_fault;
-        no_write_fault = over.served.no_write_fault;
+        counts = over.served.counts;
         halted = λ halt is. shows halt (over.served.halted halt is);
         told = over.served.told;
       };

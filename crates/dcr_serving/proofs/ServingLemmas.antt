@@ -1,22 +1,25 @@
 -- One session more that was served, and one that was not.
 use Rattle.std.proofs.Common.{◌≡◌, ◌≢◌, ℕ, ◌+◌, ◌-◌, ◌<◌, ◌≤◌, List, [], ◌∷◌, ◌++◌, length, map, drop, reverse, refl, sym, ap, subst, ◌∙◌, append_assoc, arith, ◌⊎◌, inl, inr}
-use Rattle.std.specs.Prelude.{Option, Some, None, Ok, true, false}
+use Rattle.std.specs.Prelude.{Bool, IsTrue, Option, Some, None, Ok, true, false}
 use Rattle.std.proofs.lemmas.Bool.{false≢true}
 use Rattle.std.specs.List.{All, range_with_len}
 use Rattle.std.proofs.lemmas.List.{append-nil, drop-append-le, drop_all, length-append, length-map, map-append, map-id, reverse-append}
 use Rattle.std.proofs.lemmas.List.Elements.{All-map, All-nil, All-push}
 use Rattle.std.proofs.lemmas.List.FromFn.{length-map-range_with_len, map-range_with_len_more}
-use Rattle.dcr_base.specs.Door.{GivesNext}
+use Rattle.dcr_base.specs.Door.{Doors, GivesNext}
+use Rattle.dcr_base.specs.Link.{Links}
+use Rattle.dcr_base.specs.Side.{Side}
 use Rattle.dcr_tape.specs.declared.tape.Store.{Store}
 use Rattle.dcr_turn.specs.PassValue.{PassValue, new_passes}
 use Rattle.dcr_link.specs.Replies.{Terms}
 use Rattle.dcr_serve.specs.Left.{numbers_from, AreAllButFirst, HasNumber}
 use Rattle.dcr_serve.specs.declared.stand.DoorStand.{DoorStand}
 use Rattle.dcr_serve.specs.declared.stand.DoorStand.TheVariants.{Open, Shut, Failed}
+use Rattle.dcr_serve.specs.Stand.{StandsSo}
 use Rattle.dcr_serve.proofs.Giving.{first_is_next, gives_its_number}
-use Rattle.dcr_link.specs.Serving.{AnyRose, Serves}
+use Rattle.dcr_link.specs.Serving.{Serves}
 use Rattle.dcr_link.specs.declared.end.WorkEnd.{WorkEnd}
-use Rattle.dcr_serving.specs.Serving.{AreServed, DoorEnds, IsServed, IsServedOf, Stands, Tells, new_pass}
+use Rattle.dcr_serving.specs.Serving.{AreServed, CountsDoor, DoorEnds, IsServed, IsServedOf, Stands, new_pass}
 use Rattle.dcr_serving.specs.declared.end.LinkEnd.{LinkEnd}
 use Rattle.dcr_serving.specs.declared.record.Record.{Record}
 use Rattle.std.proofs.lemmas.Simd.{map-map}
@@ -48,7 +51,7 @@ numbers_more n =
     ap (range_with_len 0) longer ∙ sym (map-id (range_with_len 0 (n + 1))) ∙ map-range_with_len_more (λ (k : ℕ). k) 0 n n (omega arith)
     ∙ ap (λ (l : List ℕ). l ++ n ∷ []) (map-id (range_with_len 0 n)) ∙ ap (λ (k : ℕ). range_with_len 0 k ++ n ∷ []) (sym same)
 
-module _ {D L R : Type 0} (tells : Tells L R) (first : Option (Store D)) (capacity : ℕ) (terms : Terms) (links : Option (List L)) where
+module _ {D L R : Type 0} (tells : Links L R) (first : Option (Store D)) (capacity : ℕ) (terms : Terms) (links : Option (List L)) where
   abbrev pub Pair : Type 0
   Pair = PassValue × LinkEnd L R
 
@@ -111,7 +114,7 @@ module _ {D L R : Type 0} (tells : Tells L R) (first : Option (Store D)) (capaci
   }
 
 -- where none was served
-pub served_none : {D L R : Type 0} (tells : Tells L R) (first : Option (Store D)) (capacity : ℕ) (terms : Terms) (links : Option (List L)) (n : ℕ) (passes : List PassValue) (ends : List (LinkEnd L R))
+pub served_none : {D L R : Type 0} (tells : Links L R) (first : Option (Store D)) (capacity : ℕ) (terms : Terms) (links : Option (List L)) (n : ℕ) (passes : List PassValue) (ends : List (LinkEnd L R))
     → passes ≡ new_passes n → ends ≡ [] → AreServed tells first capacity terms links n passes ends
 served_none tells first capacity terms links n passes ends new none = record {
   served = [];
@@ -129,53 +132,52 @@ none_given None = refl
 none_given (Some links) = (omega arith, refl)
 
 -- for want of memory the door was not asked
-pub door_unasked : {B L R : Type 0} (links : B → Option (List L)) (is_shut : B → Type 0) (faults : B → ℕ) (door : B) (sessions : ℕ) (ends : List (LinkEnd L R)) → ends ≡ []
-    → DoorEnds links is_shut faults door door sessions ends false true
-door_unasked links is_shut faults door sessions ends none = record {
-  left = subst (λ (n : ℕ). AreAllButFirst (links door) n (links door)) (sym (ap (λ (l : List (LinkEnd _ _)). length l) none)) (none_given (links door));
+pub door_unasked : {B L R : Type 0} (doors : Doors B L R) (door : B) (sessions : ℕ) (ends : List (LinkEnd L R)) → ends ≡ []
+    → DoorEnds doors door door sessions ends false true
+door_unasked doors door sessions ends none = record {
+  left = subst (λ (n : ℕ). AreAllButFirst (doors.links door) n (doors.links door)) (sym (ap (λ (l : List (LinkEnd _ _)). length l) none)) (none_given (doors.links door));
   all = λ not_failed had. absurd (false≢true (sym had));
-  failed = λ failed. absurd (false≢true failed);
-  unfailed = λ not_failed. refl;
-  never_falls = omega arith;
+  counts = refl;
   wanted = λ wanted. inl (none, refl);
   had = λ had. absurd (false≢true (sym had));
 }
 
-pub stands_so : {A B : Type 0} (stand : DoorStand) → stand ≢ Failed → (stand ≡ Open → A) → (stand ≡ Shut → B) → A ⊎ B
-stands_so Open fine given shut = inl (given refl)
-stands_so Shut fine given shut = inr (shut refl)
-stands_so Failed fine given shut = absurd (fine refl)
+pub stands_so : {A B L R : Type 0} (doors : Doors B L R) (first : ℕ) (stand : DoorStand) (door : B) → StandsSo doors first stand door → stand ≢ Failed → (stand ≡ Open → A) → A ⊎ doors.is_shut door
+stands_so doors first Open door stands fine given = inl (given refl)
+stands_so doors first Shut door stands fine given = inr stands.0
+stands_so doors first Failed door stands fine given = absurd (fine refl)
+
+-- what is told of it
+pub counts_so : {B L R : Type 0} (doors : Doors B L R) (first : ℕ) (stand : DoorStand) (door : B) (told : Bool) → StandsSo doors first stand door → (IsTrue told → stand ≡ Failed)
+    → (told ≡ false → stand ≢ Failed) → CountsDoor told first (doors.faults door)
+counts_so doors first Open door true stands failed fine = let is : Open ≡ Failed = failed refl in absurd (cc)
+counts_so doors first Shut door true stands failed fine = let is : Shut ≡ Failed = failed refl in absurd (cc)
+counts_so doors first Failed door true stands failed fine = stands
+counts_so doors first Open door false stands failed fine = stands
+counts_so doors first Shut door false stands failed fine = stands.1
+counts_so doors first Failed door false stands failed fine = absurd (fine refl refl)
 
 -- it gave a link
-pub stands_given : {B L : Type 0} (its : B → Option (List L)) (is_shut : B → Type 0) (faults : B → ℕ) (links : Option (List L)) (first given : ℕ) (before after : B) (link : L)
-    → Stands its is_shut faults links first given Open before → GivesNext (its before) (its after) (Ok (Some link)) → faults after ≡ faults before
-    → Stands its is_shut faults links first (given + 1) Open after × HasNumber links given link
-stands_given its is_shut faults links first given before after link stood gives same =
-    let step = gives_its_number links (its before) (its after) link given stood.left gives in
-    let none = same ∙ stood.unfailed (λ is. absurd (cc)) in (
-      record {
-        left = step.0;
-        never_falls = omega (arith, none);
-        unfailed = λ _. none;
-        shut = λ is. absurd (cc);
-        failed = λ is. absurd (cc);
-      },
-      step.1,
-    )
+pub stands_given : {B L R : Type 0} (doors : Doors B L R) (links : Option (List L)) (first given : ℕ) (before after : B) (link : L)
+    → Stands doors links first given Open before → GivesNext (doors.links before) (doors.links after) (Ok (Some link)) → doors.faults after ≡ doors.faults before
+    → Stands doors links first (given + 1) Open after × HasNumber links given link
+stands_given doors links first given before after link stood gives same =
+    let step = gives_its_number links (doors.links before) (doors.links after) link given stood.left gives in
+    (record { left = step.0; stands = same ∙ stood.stands }, step.1)
 
 -- ---- on the way through the sessions
 
-module _ {D B L R : Type 0} (tells : Tells L R) (first : Option (Store D)) (capacity : ℕ) (terms : Terms) (its : B → Option (List L)) (is_shut : B → Type 0) (faults : B → ℕ)
+module _ {D B L R : Type 0} (tells : Links L R) (first : Option (Store D)) (capacity : ℕ) (terms : Terms) (doors : Doors B L R)
     (links : Option (List L)) (count : ℕ) where
   -- so many have had their turn, and while the door is open each had a link
   pub record Way (passes : List PassValue) (ends : List (LinkEnd L R)) (stand : DoorStand) (door : B) : Type 0 where
     pub served : AreServed tells first capacity terms links (length passes) passes ends
-    pub stands : Stands its is_shut faults links count (length ends) stand door
+    pub stands : Stands doors links count (length ends) stand door
     pub still_open : stand ≡ Open → length ends ≡ length passes
 
   -- the next one had a link
   pub way_served : (passes passes_after : List PassValue) (ends ends_after : List (LinkEnd L R)) (stand stand_after : DoorStand) (before after : B) (link : L) (pass : PassValue) (end : LinkEnd L R)
-      → Way passes ends stand before → stand ≡ Open → Stands its is_shut faults links count (length ends + 1) stand_after after × HasNumber links (length ends) link
+      → Way passes ends stand before → stand ≡ Open → Stands doors links count (length ends + 1) stand_after after × HasNumber links (length ends) link
       → pass.session ≡ length passes → end.session ≡ pass.session → IsServed tells first capacity terms link pass end.end end.rest
       → passes_after ≡ passes ++ pass ∷ [] → ends_after ≡ ends ++ end ∷ [] → Way passes_after ends_after stand_after after
   way_served passes passes_after ends ends_after stand stand_after before after link pass end way is given number session served passes_are ends_are =
@@ -194,13 +196,13 @@ module _ {D B L R : Type 0} (tells : Tells L R) (first : Option (Store D)) (capa
             subst (λ (n : ℕ). AreServed tells first capacity terms links n passes_after ends_after) (sym longer)
             (subst (λ (l : List PassValue). AreServed tells first capacity terms links (length passes + 1) l ends_after) (sym passes_are)
             (subst (λ (l : List (LinkEnd L R)). AreServed tells first capacity terms links (length passes + 1) (passes ++ pass ∷ []) l) (sym ends_are) step));
-        stands = subst (λ (n : ℕ). Stands its is_shut faults links count n stand_after after) (sym more) given.0;
+        stands = subst (λ (n : ℕ). Stands doors links count n stand_after after) (sym more) given.0;
         still_open = λ still. omega (arith, longer, more, all);
       }
 
   -- the next one had none
   pub way_idle : (passes passes_after : List PassValue) (ends : List (LinkEnd L R)) (stand stand_after : DoorStand) (before after : B) (pass : PassValue)
-      → Way passes ends stand before → Stands its is_shut faults links count (length ends) stand_after after → stand_after ≢ Open
+      → Way passes ends stand before → Stands doors links count (length ends) stand_after after → stand_after ≢ Open
       → pass ≡ new_pass (length passes) → passes_after ≡ passes ++ pass ∷ [] → Way passes_after ends stand_after after
   way_idle passes passes_after ends stand stand_after before after pass way given not_open new passes_are =
       let longer : length passes_after ≡ length passes + 1 = ap (λ (l : List PassValue). length l) passes_are ∙ length-append passes (pass ∷ []) in
@@ -224,32 +226,19 @@ next_seat left rest seat n total numbers is =
 pub calls_from_none : (before after calls : ℕ) → before ≡ 0 → after ≡ before + calls → calls ≡ after
 calls_from_none before after calls none made = omega (arith, none, made)
 
--- from the first call on of a link that had failed in nothing, as what stays of it tells
-pub serves_from_new : {D : Type 0} (first : Option (Store D)) (capacity : ℕ) (terms : Terms) (session : ℕ) (before pass : PassValue) (left taken now_taken sent : Option (List ℕ))
-    (reads reads_after writes writes_after failed_reads failed_writes : ℕ) (end : WorkEnd)
-    → before ≡ new_pass session → pass.session ≡ before.session → sent ≡ now_taken → reads ≡ 0 → writes ≡ 0 → failed_reads ≡ reads_after → failed_writes ≡ writes_after
-    → Serves first capacity terms before pass left taken now_taken (AnyRose reads reads_after writes writes_after) end
-    → Serves first capacity terms (new_pass pass.session) pass left taken sent (AnyRose 0 failed_reads 0 failed_writes) end
-serves_from_new first capacity terms session before pass left taken now_taken sent reads reads_after writes writes_after failed_reads failed_writes end new same sent_is no_reads no_writes reads_are writes_are serves =
+-- from the first call on of a link, as what stays of it tells
+pub serves_from_new : {D : Type 0} (first : Option (Store D)) (capacity : ℕ) (terms : Terms) (session : ℕ) (before pass : PassValue) (left rest had took unread sent : Side) (end : WorkEnd)
+    → before ≡ new_pass session → pass.session ≡ before.session → unread ≡ rest → sent ≡ took → Serves first capacity terms before pass left rest had took end
+    → Serves first capacity terms (new_pass pass.session) pass left unread had sent end
+serves_from_new first capacity terms session before pass left rest had took unread sent end new same unread_is sent_is serves =
     let its : session ≡ pass.session = sym (ap (λ (p : PassValue). p.session) new) ∙ sym same in
-    subst (λ (s : Option (List ℕ)). Serves first capacity terms (new_pass pass.session) pass left taken s (AnyRose 0 failed_reads 0 failed_writes) end) (sym sent_is)
-    (subst (λ (b : PassValue). Serves first capacity terms b pass left taken now_taken (AnyRose 0 failed_reads 0 failed_writes) end) (new ∙ ap new_pass its)
-    (subst (λ (n : ℕ). Serves first capacity terms before pass left taken now_taken (AnyRose n failed_reads 0 failed_writes) end) no_reads
-    (subst (λ (n : ℕ). Serves first capacity terms before pass left taken now_taken (AnyRose reads failed_reads n failed_writes) end) no_writes
-    (subst (λ (n : ℕ). Serves first capacity terms before pass left taken now_taken (AnyRose reads n writes failed_writes) end) (sym reads_are)
-    (subst (λ (n : ℕ). Serves first capacity terms before pass left taken now_taken (AnyRose reads reads_after writes n) end) (sym writes_are) serves)))))
-
-pub rose_from_none : (reads reads_after writes writes_after failed_reads failed_writes : ℕ) → reads ≡ 0 → writes ≡ 0 → failed_reads ≡ reads_after → failed_writes ≡ writes_after
-    → AnyRose reads reads_after writes writes_after → AnyRose 0 failed_reads 0 failed_writes
-rose_from_none reads reads_after writes writes_after failed_reads failed_writes no_reads no_writes reads_are writes_are rose =
-    subst (λ (n : ℕ). AnyRose n failed_reads 0 failed_writes) no_reads
-    (subst (λ (n : ℕ). AnyRose reads failed_reads n failed_writes) no_writes
-    (subst (λ (n : ℕ). AnyRose reads n writes failed_writes) (sym reads_are)
-    (subst (λ (n : ℕ). AnyRose reads reads_after writes n) (sym writes_are) rose)))
+    subst (λ (s : Side). Serves first capacity terms (new_pass pass.session) pass left unread had s end) (sym sent_is)
+    (subst (λ (u : Side). Serves first capacity terms (new_pass pass.session) pass left u had took end) (sym unread_is)
+    (subst (λ (b : PassValue). Serves first capacity terms b pass left rest had took end) (new ∙ ap new_pass its) serves))
 
 -- ---- what the workers have served
 
-module _ {D L N R : Type 0} (tells : Tells L R) (first : Option (Store D)) (capacity : ℕ) (terms : Terms) (links : Option (List L)) where
+module _ {D L N R : Type 0} (tells : Links L R) (first : Option (Store D)) (capacity : ℕ) (terms : Terms) (links : Option (List L)) where
   pub served_first : (records : List (Record L N R)) → map (λ (one : Record L N R). one.pass.session) records ≡ numbers_from 0 (length records)
       → All (λ (one : Record L N R). IsServedOf tells first capacity terms links one.pass one.end) records
       → AreServed tells first capacity terms links (length records) (map (λ (one : Record L N R). one.pass) records) (map (λ (one : Record L N R). one.end) records)

@@ -4,7 +4,8 @@ use Rattle.std.specs.Prelude.{Bool, IsSome, IsTrue, None, Option, Some, false, s
 use Rattle.std.specs.List.{All, Any}
 use Rattle.std.proofs.lemmas.List.{length-map}
 use Rattle.std.proofs.lemmas.List.FromFn.{length-range_with_len}
-use Rattle.dcr_base.specs.Count.{Rose}
+use Rattle.dcr_base.specs.Door.{Doors}
+use Rattle.dcr_base.specs.Link.{Links}
 use Rattle.dcr_tape.specs.declared.tape.Store.{Store}
 use Rattle.dcr_turn.specs.PassValue.{PassValue, new_passes}
 use Rattle.dcr_link.specs.Replies.{Terms}
@@ -13,11 +14,11 @@ use Rattle.dcr_serve.specs.declared.stand.DoorStand.{DoorStand}
 use Rattle.dcr_serve.specs.declared.stand.DoorStand.TheVariants.{Failed, Open}
 use Rattle.dcr_link.specs.declared.end.WorkCause.TheVariants.{NoMemory}
 use Rattle.dcr_serving.specs.Placing.{AreInPlace, filled}
-use Rattle.dcr_serving.specs.Serving.{AreServed, DoorEnds, IsServedOf, Stands, Tells}
+use Rattle.dcr_serving.specs.Serving.{AreServed, CountsDoor, DoorEnds, IsServedOf, Stands}
 use Rattle.dcr_serving.specs.declared.end.LinkEnd.{LinkEnd}
 use Rattle.dcr_serving.specs.declared.record.Record.{Record}
 use Rattle.dcr_serving.proofs.DeskLemmas.{in_order, settled}
-use Rattle.dcr_serving.proofs.ServingLemmas.{Way, length-new, served_first, stands_so}
+use Rattle.dcr_serving.proofs.ServingLemmas.{Way, counts_so, length-new, served_first, stands_so}
 
 pub as_many_new : (count len n : ℕ) (passes : List PassValue) → count ≡ len → len ≡ length passes → passes ≡ new_passes n → count ≡ n
 as_many_new count len n passes is len_is new = is ∙ len_is ∙ ap (λ (l : List PassValue). length l) new ∙ length-new n
@@ -86,34 +87,32 @@ module _ {L N R : Type 0} (slots : List (Option (Record L N R))) where
       are ∙ ap (λ (k : ℕ). numbers_from k m) (sym many) ∙ ap (numbers_from passes) (let all : m ≡ passes + length left = omega (arith, many, total, same) in all)
 
   -- those that were served at the desk are the first ones of all
-  pub way_after : {D B : Type 0} (tells : Tells L R) (first : Option (Store D)) (capacity : ℕ) (terms : Terms) (its : B → Option (List L)) (is_shut : B → Type 0) (faults : B → ℕ)
+  pub way_after : {D B : Type 0} (tells : Links L R) (first : Option (Store D)) (capacity : ℕ) (terms : Terms) (doors : Doors B L R)
       (links : Option (List L)) (count : ℕ) (left : List PassValue) (sessions seats n : ℕ) (passes : List PassValue) (ends : List (LinkEnd L R)) (stand : DoorStand) (door : B)
       → AreFirst left sessions seats n → AreTaken passes ends → All (λ (one : Record L N R). IsServedOf tells first capacity terms links one.pass one.end) (filled slots)
-      → Stands its is_shut faults links count (length (filled slots)) stand door → Way tells first capacity terms its is_shut faults links count passes ends stand door
-  way_after tells first capacity terms its is_shut faults links count left sessions seats n passes ends stand door are taken each stands = record {
+      → Stands doors links count (length (filled slots)) stand door → Way tells first capacity terms doors links count passes ends stand door
+  way_after tells first capacity terms doors links count left sessions seats n passes ends stand door are taken each stands = record {
     served =
         subst (λ (k : ℕ). AreServed tells first capacity terms links k passes ends) (sym taken.passes_many)
         (subst (λ (l : List PassValue). AreServed tells first capacity terms links (length (filled slots)) l ends) (sym taken.passes_are)
         (subst (λ (l : List (LinkEnd L R)). AreServed tells first capacity terms links (length (filled slots)) (map (λ (one : Record L N R). one.pass) (filled slots)) l) (sym taken.ends_are)
         (served_first tells first capacity terms links (filled slots) are.numbers each)));
-    stands = subst (λ (k : ℕ). Stands its is_shut faults links count k stand door) (sym taken.ends_many) stands;
+    stands = subst (λ (k : ℕ). Stands doors links count k stand door) (sym taken.ends_many) stands;
     still_open = λ is. taken.ends_many ∙ sym taken.passes_many;
   }
 
 pub room_for : (passes t left n sessions room capacity : ℕ) → passes ≡ t → t + left ≡ n → sessions ≡ n → sessions ≤ room → capacity ≡ room → passes + left ≤ capacity
 room_for passes t left n sessions room capacity many total all enough same = omega (arith, many, total, all, enough, same)
 
-pub door_ends : {B L R : Type 0} (its : B → Option (List L)) (is_shut : B → Type 0) (faults : B → ℕ) (before after : B) (links : Option (List L)) (count sessions : ℕ) (ends : List (LinkEnd L R))
-    (stand : DoorStand) (door_failed no_memory : Bool) → its before ≡ links → faults before ≡ count → Stands its is_shut faults links count (length ends) stand after
+pub door_ends : {B L R : Type 0} (doors : Doors B L R) (before after : B) (links : Option (List L)) (count sessions : ℕ) (ends : List (LinkEnd L R))
+    (stand : DoorStand) (door_failed no_memory : Bool) → doors.links before ≡ links → doors.faults before ≡ count → Stands doors links count (length ends) stand after
     → (stand ≡ Open → length ends ≡ sessions) → (IsTrue door_failed → stand ≡ Failed) → (door_failed ≡ false → stand ≢ Failed)
     → (IsTrue no_memory → Any (λ (end : LinkEnd L R). end.end.cause ≡ NoMemory) ends) → (no_memory ≡ false → All (λ (end : LinkEnd L R). end.end.cause ≢ NoMemory) ends)
-    → DoorEnds its is_shut faults before after sessions ends door_failed no_memory
-door_ends its is_shut faults before after links count sessions ends stand door_failed no_memory links_are count_is stands all failed not_failed wanted had = record {
-  left = subst (λ (l : Option (List _)). AreAllButFirst l (length ends) (its after)) (sym links_are) stands.left;
-  all = λ fine enough. stands_so stand (not_failed fine) all stands.shut;
-  failed = λ is. subst (λ (k : ℕ). Rose k (faults after)) (sym count_is) (stands.failed (failed is));
-  unfailed = λ fine. stands.unfailed (not_failed fine) ∙ sym count_is;
-  never_falls = subst (λ (k : ℕ). k ≤ faults after) (sym count_is) stands.never_falls;
+    → DoorEnds doors before after sessions ends door_failed no_memory
+door_ends doors before after links count sessions ends stand door_failed no_memory links_are count_is stands all failed not_failed wanted had = record {
+  left = subst (λ (l : Option (List _)). AreAllButFirst l (length ends) (doors.links after)) (sym links_are) stands.left;
+  all = λ fine enough. stands_so doors count stand after stands.stands (not_failed fine) all;
+  counts = subst (λ (k : ℕ). CountsDoor door_failed k (doors.faults after)) (sym count_is) (counts_so doors count stand after door_failed stands.stands failed not_failed);
   wanted = λ is. inr (wanted is);
   had = had;
 }

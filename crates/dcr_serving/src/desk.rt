@@ -1,8 +1,7 @@
 ghost use Rattle.std.specs.Prelude.{◌≡◌, ◌+◌, ◌<◌, ◌≤◌, ℕ, [], length, map, slice_get, slice_index_or, Some, None};
 ghost use Rattle.std.specs.List.{All};
-ghost use Rattle.dcr_graph.specs.GraphValue.{rules_of};
 ghost use Rattle.dcr_serve.specs.Left.{numbers_from};
-ghost use Rattle.dcr_link.specs.Replies.{terms_of};
+ghost use Rattle.dcr_link.specs.Replies.{IsOfCluster};
 ghost use Rattle.dcr_serving.specs.Hands.{HasServed, IsReady};
 ghost use Rattle.dcr_serving.specs.Placing.{AreInPlace, HasRoom, filled};
 ghost use Rattle.dcr_serving.specs.Serving.{IsServedOf, Stands};
@@ -15,9 +14,7 @@ use crate::work::{Hand, work};
 use dcr_base::{Disk, Door, Gate, Link};
 use dcr_cell::StoreName;
 use dcr_cluster::Cluster;
-use dcr_graph::Graph;
-use dcr_policy::Policy;
-use dcr_proj::Cover;
+use dcr_link::Scene;
 use dcr_serve::{Desk, DeskName, DoorStand};
 use std::alloc::Global;
 use std::sync::Wait;
@@ -38,9 +35,7 @@ pub(crate) fn work_at<
     rt: &R,
     alloc: Global,
     cluster: &Cluster<D, G, N>,
-    graph: &Graph,
-    cover: &Cover,
-    policy: &Policy,
+    scene: &Scene<'_>,
     door: B,
     seats: Vec<Seat<N>>,
     records: Vec<Vec<Record<B::Link, N>>>,
@@ -48,9 +43,7 @@ pub(crate) fn work_at<
     slots: &mut [Option<Record<B::Link, N>>],
     blank: Blank,
 ) -> (B, Vec<Seat<N>>, DoorStand)
-    requires graph { rules_of graph.now ≡ N.cluster.rules }
-    requires cover { cover.now.owned ≡ N.cluster.owned }
-    requires policy { length policy.now.atoms ≡ N.cluster.rules.atoms }
+    requires scene { IsOfCluster N.cluster scene.now }
     requires some { 0 < length records.items }
     requires seats { map (λ seat. seat.session) seats.items ≡ numbers_from 0 M.items }
     requires records { All (HasRoom M.items) records.items }
@@ -59,28 +52,21 @@ pub(crate) fn work_at<
     requires empty { filled slots.old ≡ [] }
     requires ledger { (blank.name ≡ M.name) × (blank.parts ≡ M.parts) }
     requires parts { blank.parts ≡ length records.items + 1 }
-    requires faults { B.faults door ≡ M.faults }
-    requires links { B.links door ≡ M.links }
+    requires faults { B.tells.faults door ≡ M.faults }
+    requires links { B.tells.links door ≡ M.links }
     ensures as_many { length slots.new ≡ M.items }
     ensures in_place { AreInPlace slots.new }
-    ensures served { All (λ one. IsServedOf (record {
-      left = B.Link.left;
-      taken = B.Link.taken;
-      unread = B.Link.Rest.unread;
-      sent = B.Link.Rest.sent;
-      failed_reads = B.Link.Rest.failed_reads;
-      failed_writes = B.Link.Rest.failed_writes;
-    })
-        N.first N.capacity (terms_of cover.now.names graph.now.names policy.now) M.links one.pass one.end) (filled slots.new) }
+    ensures served { All (λ one. IsServedOf B.tells.each
+        N.first N.capacity scene.now M.links one.pass one.end) (filled slots.new) }
     ensures left { map (λ seat. seat.session) result.1.items ≡ numbers_from (length (filled slots.new)) M.items }
     ensures within { length (filled slots.new) ≤ M.items }
     ensures free { All (λ seat. slice_get slots.new seat.session ≡ Some None) result.1.items }
-    ensures stands { Stands B.links B.is_shut B.faults M.links M.faults (length (filled slots.new)) result.2 result.0 }
+    ensures stands { Stands B.tells M.links M.faults (length (filled slots.new)) result.2 result.0 }
 {
     let sessions = slots.len();
     let (desk, mut share) = Desk::<B, Seat<N>, M>::new(door, seats, blank);
     let mut hands = deal(&mut share, records, hands, sessions);
-    at_work(rt, alloc, cluster, graph, cover, policy, &desk, &mut hands);
+    at_work(rt, alloc, cluster, scene, &desk, &mut hands);
     gather(cluster, &mut share, hands, slots);
     let (door, left, stand) = desk.finish(share);
     let left = part(cluster, left, slots);
@@ -99,38 +85,18 @@ fn at_work<
     rt: &R,
     alloc: Global,
     cluster: &Cluster<D, G, N>,
-    graph: &Graph,
-    cover: &Cover,
-    policy: &Policy,
+    scene: &Scene<'_>,
     desk: &Desk<B, Seat<N>, M>,
     hands: &mut Vec<Hand<B::Link, N, M>>,
 )
-    requires graph { rules_of graph.now ≡ N.cluster.rules }
-    requires cover { cover.now.owned ≡ N.cluster.owned }
-    requires policy { length policy.now.atoms ≡ N.cluster.rules.atoms }
+    requires scene { IsOfCluster N.cluster scene.now }
     requires some { 0 < length hands.old.items }
     requires ready { All (IsReady M.items) hands.old.items }
     ensures as_many { length hands.new.items ≡ length hands.old.items }
-    ensures served { All (HasServed (record {
-      left = B.Link.left;
-      taken = B.Link.taken;
-      unread = B.Link.Rest.unread;
-      sent = B.Link.Rest.sent;
-      failed_reads = B.Link.Rest.failed_reads;
-      failed_writes = B.Link.Rest.failed_writes;
-    })
-        N.first N.capacity (terms_of cover.now.names graph.now.names policy.now) M.links M.items) hands.new.items }
+    ensures served { All (HasServed B.tells.each
+        N.first N.capacity scene.now M.links M.items) hands.new.items }
 {
-    each_at_work(
-        rt,
-        alloc,
-        cluster,
-        graph,
-        cover,
-        policy,
-        desk,
-        hands.as_mut_slice(),
-    );
+    each_at_work(rt, alloc, cluster, scene, desk, hands.as_mut_slice());
 }
 
 fn each_at_work<
@@ -144,27 +110,16 @@ fn each_at_work<
     rt: &R,
     alloc: Global,
     cluster: &Cluster<D, G, N>,
-    graph: &Graph,
-    cover: &Cover,
-    policy: &Policy,
+    scene: &Scene<'_>,
     desk: &Desk<B, Seat<N>, M>,
     hands: &mut [Hand<B::Link, N, M>],
 )
-    requires graph { rules_of graph.now ≡ N.cluster.rules }
-    requires cover { cover.now.owned ≡ N.cluster.owned }
-    requires policy { length policy.now.atoms ≡ N.cluster.rules.atoms }
+    requires scene { IsOfCluster N.cluster scene.now }
     requires some { 0 < length hands.old }
     requires ready { All (IsReady M.items) hands.old }
     ensures as_many { length hands.new ≡ length hands.old }
-    ensures served { (worker : ℕ) (d : _) → worker < length hands.old → HasServed (record {
-      left = B.Link.left;
-      taken = B.Link.taken;
-      unread = B.Link.Rest.unread;
-      sent = B.Link.Rest.sent;
-      failed_reads = B.Link.Rest.failed_reads;
-      failed_writes = B.Link.Rest.failed_writes;
-    })
-        N.first N.capacity (terms_of cover.now.names graph.now.names policy.now) M.links M.items (slice_index_or hands.new worker d) }
+    ensures served { (worker : ℕ) (d : _) → worker < length hands.old → HasServed B.tells.each
+        N.first N.capacity scene.now M.links M.items (slice_index_or hands.new worker d) }
 {
     let workers = hands.len();
     thread::for_each_mut(
@@ -172,16 +127,9 @@ fn each_at_work<
         hands,
         workers,
         &|_, hand: &mut Hand<B::Link, N, M>|
-            requires { (rules_of graph.now ≡ N.cluster.rules) × (cover.now.owned ≡ N.cluster.owned) × (length policy.now.atoms ≡ N.cluster.rules.atoms) × IsReady M.items hand.now }
-            ensures { HasServed (record {
-              left = B.Link.left;
-              taken = B.Link.taken;
-              unread = B.Link.Rest.unread;
-              sent = B.Link.Rest.sent;
-              failed_reads = B.Link.Rest.failed_reads;
-              failed_writes = B.Link.Rest.failed_writes;
-            })
-                N.first N.capacity (terms_of cover.entry.now.names graph.entry.now.names policy.entry.now) M.links M.items hand.exit.now }
-        { work(rt, alloc, cluster, graph, cover, policy, desk, hand) },
+            requires { IsOfCluster N.cluster scene.now × IsReady M.items hand.now }
+            ensures { HasServed B.tells.each
+                N.first N.capacity scene.entry.now M.links M.items hand.exit.now }
+        { work(rt, alloc, cluster, scene, desk, hand) },
     );
 }

@@ -1,8 +1,8 @@
 ghost use Rattle.std.specs.Prelude.{◌≡◌, ◌≢◌, ◌+◌, ◌≤◌, ℕ, List, Option, length, map, vec_capacity, IfSome, IfNone};
-ghost use Rattle.dcr_graph.specs.GraphValue.{rules_of};
+ghost use Rattle.dcr_base.specs.Link.{IsUnfailed};
 ghost use Rattle.dcr_serve.specs.Left.{numbers_from, HasNumber};
 ghost use Rattle.dcr_serve.specs.declared.stand.DoorStand.TheVariants.{Open};
-ghost use Rattle.dcr_link.specs.Replies.{terms_of};
+ghost use Rattle.dcr_link.specs.Replies.{IsOfCluster};
 ghost use Rattle.dcr_serving.specs.Serving.{AreServed, Stands};
 
 use crate::LinkEnd;
@@ -11,9 +11,7 @@ use crate::seat::Seat;
 use dcr_base::{Disk, Door, Failed, Gate};
 use dcr_cell::StoreName;
 use dcr_cluster::Cluster;
-use dcr_graph::Graph;
-use dcr_policy::Policy;
-use dcr_proj::Cover;
+use dcr_link::Scene;
 use dcr_serve::DoorStand;
 use dcr_turn::Pass;
 use std::alloc::Global;
@@ -25,44 +23,26 @@ pub(crate) fn go_on<D: Disk, G: Gate, N: StoreName<D>, B: Door, R: Wait>(
     rt: &R,
     alloc: Global,
     cluster: &Cluster<D, G, N>,
-    graph: &Graph,
-    cover: &Cover,
-    policy: &Policy,
+    scene: &Scene<'_>,
     door: &mut B,
     stand: DoorStand,
     mut left: Vec<Seat<N>>,
     passes: &mut Vec<Pass<N>>,
     ends: &mut Vec<LinkEnd<B::Link>>,
 ) -> DoorStand
-    requires graph { rules_of graph.now ≡ N.cluster.rules }
-    requires cover { cover.now.owned ≡ N.cluster.owned }
-    requires policy { length policy.now.atoms ≡ N.cluster.rules.atoms }
+    requires scene { IsOfCluster N.cluster scene.now }
     requires left { map (λ seat. seat.session) left.items ≡ numbers_from (length passes.old.items) (length passes.old.items + length left.items) }
     requires no_more { length ends.old.items ≤ length passes.old.items }
     requires room_for_passes { length passes.old.items + length left.items ≤ vec_capacity passes.old }
     requires room_for_ends { length passes.old.items + length left.items ≤ vec_capacity ends.old }
     ensures goes_on { (links : Option (List B.Link)) (faults : ℕ)
-        → AreServed (record {
-          left = B.Link.left;
-          taken = B.Link.taken;
-          unread = B.Link.Rest.unread;
-          sent = B.Link.Rest.sent;
-          failed_reads = B.Link.Rest.failed_reads;
-          failed_writes = B.Link.Rest.failed_writes;
-        })
-        N.first N.capacity (terms_of cover.now.names graph.now.names policy.now) links (length passes.old.items) passes.old.items ends.old.items
-        → Stands B.links B.is_shut B.faults links faults (length ends.old.items) stand door.old
+        → AreServed B.tells.each
+        N.first N.capacity scene.now links (length passes.old.items) passes.old.items ends.old.items
+        → Stands B.tells links faults (length ends.old.items) stand door.old
         → (stand ≡ Open → length ends.old.items ≡ length passes.old.items)
-        → AreServed (record {
-          left = B.Link.left;
-          taken = B.Link.taken;
-          unread = B.Link.Rest.unread;
-          sent = B.Link.Rest.sent;
-          failed_reads = B.Link.Rest.failed_reads;
-          failed_writes = B.Link.Rest.failed_writes;
-        })
-        N.first N.capacity (terms_of cover.now.names graph.now.names policy.now) links (length passes.old.items + length left.items) passes.new.items ends.new.items
-        × Stands B.links B.is_shut B.faults links faults (length ends.new.items) result door.new
+        → AreServed B.tells.each
+        N.first N.capacity scene.now links (length passes.old.items + length left.items) passes.new.items ends.new.items
+        × Stands B.tells links faults (length ends.new.items) result door.new
         × (result ≡ Open → length ends.new.items ≡ length passes.old.items + length left.items) }
 {
     let mut now = stand;
@@ -71,8 +51,8 @@ pub(crate) fn go_on<D: Disk, G: Gate, N: StoreName<D>, B: Door, R: Wait>(
     while let Some(seat) = left.pop() {
         match ask(door, &mut now) {
             Some(link) => {
-                let Record { pass, end } = serve_link(
-                    rt, alloc, cluster, seat, graph, cover, policy, link,
+                let Record { pass, end } = serve_link::<D, G, N, B, R>(
+                    rt, alloc, cluster, seat, scene, link,
                 );
                 passes.push_reserved(pass);
                 ends.push_reserved(end);
@@ -85,13 +65,13 @@ pub(crate) fn go_on<D: Disk, G: Gate, N: StoreName<D>, B: Door, R: Wait>(
 
 // The next link of a door that is open. It is asked no more once it had none to give.
 fn ask<B: Door>(door: &mut B, stand: &mut DoorStand) -> Option<B::Link>
-    ensures fresh { IfSome result (λ link. (B.Link.read_faults link ≡ 0) × (B.Link.write_faults link ≡ 0)) }
+    ensures fresh { IfSome result (λ link. IsUnfailed B.tells.each link) }
     ensures open { IfSome result (λ link. (stand.old ≡ Open) × (stand.new ≡ Open)) }
     ensures not_open { IfNone result (stand.new ≢ Open) }
-    ensures some { IfSome result (λ link. (links : Option (List B.Link)) (faults given : ℕ) → Stands B.links B.is_shut B.faults links faults given stand.old door.old
-        → Stands B.links B.is_shut B.faults links faults (given + 1) stand.new door.new × HasNumber links given link) }
-    ensures none { IfNone result ((links : Option (List B.Link)) (faults given : ℕ) → Stands B.links B.is_shut B.faults links faults given stand.old door.old
-        → Stands B.links B.is_shut B.faults links faults given stand.new door.new) }
+    ensures some { IfSome result (λ link. (links : Option (List B.Link)) (faults given : ℕ) → Stands B.tells links faults given stand.old door.old
+        → Stands B.tells links faults (given + 1) stand.new door.new × HasNumber links given link) }
+    ensures none { IfNone result ((links : Option (List B.Link)) (faults given : ℕ) → Stands B.tells links faults given stand.old door.old
+        → Stands B.tells links faults given stand.new door.new) }
 {
     let DoorStand::Open = *stand else {
         return None;

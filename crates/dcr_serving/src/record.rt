@@ -1,17 +1,14 @@
 ghost use Rattle.std.specs.Prelude.{◌≡◌, length};
-ghost use Rattle.dcr_graph.specs.GraphValue.{rules_of};
-ghost use Rattle.dcr_link.specs.Replies.{terms_of};
+ghost use Rattle.dcr_base.specs.Link.{IsUnfailed};
+ghost use Rattle.dcr_link.specs.Replies.{IsOfCluster};
 ghost use Rattle.dcr_serving.specs.Serving.{IsServed};
 
 use crate::LinkEnd;
 use crate::seat::Seat;
-use dcr_base::{Disk, Gate, Link};
+use dcr_base::{Disk, Door, Gate, Link};
 use dcr_cell::StoreName;
 use dcr_cluster::Cluster;
-use dcr_graph::Graph;
-use dcr_link::serve_session;
-use dcr_policy::Policy;
-use dcr_proj::Cover;
+use dcr_link::Scene;
 use dcr_serve::Numbered;
 use dcr_turn::{Pass, TurnName};
 use std::alloc::Global;
@@ -25,37 +22,24 @@ pub(crate) struct Record<L: Link, N: TurnName> {
 }
 
 /// Serves the session of a seat over a link, and ends the link.
-pub(crate) fn serve_link<D: Disk, G: Gate, N: StoreName<D>, L: Link, R: Wait>(
+pub(crate) fn serve_link<D: Disk, G: Gate, N: StoreName<D>, B: Door, R: Wait>(
     rt: &R,
     alloc: Global,
     cluster: &Cluster<D, G, N>,
     seat: Seat<N>,
-    graph: &Graph,
-    cover: &Cover,
-    policy: &Policy,
-    link: L,
-) -> Record<L, N>
-    requires graph { rules_of graph.now ≡ N.cluster.rules }
-    requires cover { cover.now.owned ≡ N.cluster.owned }
-    requires policy { length policy.now.atoms ≡ N.cluster.rules.atoms }
-    requires fresh { (L.read_faults link ≡ 0) × (L.write_faults link ≡ 0) }
+    scene: &Scene<'_>,
+    link: B::Link,
+) -> Record<B::Link, N>
+    requires scene { IsOfCluster N.cluster scene.now }
+    requires fresh { IsUnfailed B.tells.each link }
     ensures session { (result.pass.session ≡ seat.session) × (result.end.session ≡ seat.session) }
-    ensures served { IsServed (record {
-      left = L.left;
-      taken = L.taken;
-      unread = L.Rest.unread;
-      sent = L.Rest.sent;
-      failed_reads = L.Rest.failed_reads;
-      failed_writes = L.Rest.failed_writes;
-    })
-        N.first N.capacity (terms_of cover.now.names graph.now.names policy.now) link result.pass result.end.end result.end.rest }
+    ensures served { IsServed B.tells.each
+        N.first N.capacity scene.now link result.pass result.end.end result.end.rest }
 {
     let session = seat.number();
     let mut pass = seat.into_pass();
     let mut link = link;
-    let end = serve_session(
-        rt, alloc, cluster, &mut pass, graph, cover, policy, &mut link,
-    );
+    let end = scene.serve(rt, alloc, cluster, &mut pass, &mut link);
     Record {
         pass,
         end: LinkEnd {

@@ -5,7 +5,7 @@ ghost use Rattle.dcr_graph.specs.GraphValue.{rules_of};
 ghost use Rattle.dcr_turn.specs.PassValue.{new_passes};
 ghost use Rattle.dcr_serve.specs.Left.{AreAllButFirst};
 ghost use Rattle.dcr_serve.specs.declared.stand.DoorStand.TheVariants.{Failed as HasFailed};
-ghost use Rattle.dcr_link.specs.Replies.{terms_of};
+ghost use Rattle.dcr_link.specs.Replies.{IsOfCluster, terms_of};
 ghost use Rattle.dcr_link.specs.declared.end.WorkCause.TheVariants.{NoMemory};
 ghost use Rattle.dcr_serving.specs.Serving.{AreServed, DoorEnds};
 
@@ -18,7 +18,7 @@ use dcr_base::{Disk, Door, Gate, Link};
 use dcr_cell::StoreName;
 use dcr_cluster::Cluster;
 use dcr_graph::Graph;
-use dcr_link::WorkCause;
+use dcr_link::{Scene, WorkCause};
 use dcr_policy::Policy;
 use dcr_proj::Cover;
 use dcr_serve::{DeskName, DoorStand};
@@ -61,26 +61,28 @@ pub fn serve_sessions<
     requires policy { length policy.now.atoms ≡ N.cluster.rules.atoms }
     requires passes { passes.items ≡ new_passes N.turn.sessions }
     requires workers { (0 < workers) × (workers ≤ 64) }
-    ensures served { AreServed (record {
-      left = B.Link.left;
-      taken = B.Link.taken;
-      unread = B.Link.Rest.unread;
-      sent = B.Link.Rest.sent;
-      failed_reads = B.Link.Rest.failed_reads;
-      failed_writes = B.Link.Rest.failed_writes;
-    })
-        N.first N.capacity (terms_of cover.now.names graph.now.names policy.now) (B.links door) N.turn.sessions result.passes.items result.ends.items }
-    ensures door { DoorEnds B.links B.is_shut B.faults door result.door N.turn.sessions result.ends.items
+    ensures served { AreServed B.tells.each
+        N.first N.capacity (terms_of cover.now.names graph.now.names policy.now) (B.tells.links door) N.turn.sessions result.passes.items result.ends.items }
+    ensures door { DoorEnds B.tells door result.door N.turn.sessions result.ends.items
         result.door_failed result.no_memory }
 {
+    // A cover has as many sets as names.
+    cover.sites();
+    let Ok(scene) = Scene::new(alloc, graph, cover, policy) else {
+        return ServeEnd {
+            passes,
+            door,
+            door_failed: false,
+            no_memory: true,
+            ends: Vec::new(alloc),
+        };
+    };
     at_desk::<D, G, N, B, Brand, R>(
         rt,
         alloc,
         cluster,
         passes,
-        graph,
-        cover,
-        policy,
+        &scene,
         door,
         workers,
         Blank::new(workers as u64 + 1),
@@ -100,33 +102,22 @@ fn at_desk<
     alloc: Global,
     cluster: &Cluster<D, G, N>,
     passes: Vec<Pass<N>>,
-    graph: &Graph,
-    cover: &Cover,
-    policy: &Policy,
+    scene: &Scene<'_>,
     door: B,
     workers: u32,
     blank: Blank,
 ) -> ServeEnd<B, N>
-    requires graph { rules_of graph.now ≡ N.cluster.rules }
-    requires cover { cover.now.owned ≡ N.cluster.owned }
-    requires policy { length policy.now.atoms ≡ N.cluster.rules.atoms }
+    requires scene { IsOfCluster N.cluster scene.now }
     requires passes { passes.items ≡ new_passes N.turn.sessions }
     requires workers { (0 < workers) × (workers ≤ 64) }
     requires items { M.items ≡ N.turn.sessions }
     requires ledger { (blank.name ≡ M.name) × (blank.parts ≡ M.parts) }
     requires parts { blank.parts ≡ workers + 1 }
-    requires faults { B.faults door ≡ M.faults }
-    requires links { B.links door ≡ M.links }
-    ensures served { AreServed (record {
-      left = B.Link.left;
-      taken = B.Link.taken;
-      unread = B.Link.Rest.unread;
-      sent = B.Link.Rest.sent;
-      failed_reads = B.Link.Rest.failed_reads;
-      failed_writes = B.Link.Rest.failed_writes;
-    })
-        N.first N.capacity (terms_of cover.now.names graph.now.names policy.now) (B.links door) N.turn.sessions result.passes.items result.ends.items }
-    ensures door { DoorEnds B.links B.is_shut B.faults door result.door N.turn.sessions result.ends.items
+    requires faults { B.tells.faults door ≡ M.faults }
+    requires links { B.tells.links door ≡ M.links }
+    ensures served { AreServed B.tells.each
+        N.first N.capacity scene.now (B.tells.links door) N.turn.sessions result.passes.items result.ends.items }
+    ensures door { DoorEnds B.tells door result.door N.turn.sessions result.ends.items
         result.door_failed result.no_memory }
 {
     let sessions = passes.len();
@@ -150,16 +141,14 @@ fn at_desk<
     let seats = seated(passes, seats);
     let places = slots.as_mut_slice();
     let (mut door, left, stand) = work_at(
-        rt, alloc, cluster, graph, cover, policy, door, seats, records, hands, places, blank,
+        rt, alloc, cluster, scene, door, seats, records, hands, places, blank,
     );
     take_out(places, sessions - left.len(), &mut served, &mut ends);
     let stand = go_on(
         rt,
         alloc,
         cluster,
-        graph,
-        cover,
-        policy,
+        scene,
         &mut door,
         stand,
         left,

@@ -22,7 +22,7 @@ abbrev pub part_of : {D : Type 0} → Tape D → Part
 part_of tape = record { start = tape.start; width = width_by tape.unrenewed; digest = tape.digest }
 
 -- the disk's content stands for these entries by the part that the tape is at
-pub record Keeps {D : Type 0} (view : D → DiskView) (tape : Tape D) (entries : List TapeEntry) : Type 0 where
+pub record TapeHolds {D : Type 0} (view : D → DiskView) (tape : Tape D) (entries : List TapeEntry) : Type 0 where
   pub told : IsTrue (view tape.disk).told
   pub holds : Holds (view tape.disk).content (part_of tape) entries
   pub count : tape.count ≡ length entries

@@ -1,5 +1,6 @@
 ghost use Rattle.std.specs.Prelude.{◌≡◌, length, OnOk};
-ghost use Rattle.dcr_base.specs.Disk.{CountsFault, IsSteady, LeavesOnly, Torn, Wrote};
+ghost use Rattle.dcr_base.specs.Count.{CountsFault};
+ghost use Rattle.dcr_base.specs.Disk.{IsSteady, LeavesOnly, Torn, Wrote};
 
 use dcr_base::{Disk, Failed};
 

@@ -1,6 +1,7 @@
 // The part of a tape that is in force.
 ghost use Rattle.std.specs.Prelude.{◌≡◌, ◌+◌, ◌≤◌, length, IsTrue, IfOk, MatchOption};
-ghost use Rattle.dcr_base.specs.Disk.{Stays, CountsFault, bytes_at};
+ghost use Rattle.dcr_base.specs.Count.{CountsFault};
+ghost use Rattle.dcr_base.specs.Disk.{Stays, bytes_at};
 ghost use Rattle.dcr_tape.specs.Tape.{Part, InForce};
 ghost use Rattle.dcr_tape.specs.Found.{part_found, HasNoPartAt, IsPartAt};
 

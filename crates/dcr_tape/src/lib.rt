@@ -20,4 +20,4 @@ pub use entry::TapeEntry;
 pub use laws::{each_content_is, no_cause, one_cause, one_list};
 pub use open::{TapeRefused, open_tape};
 pub use stop::{DiskFault, RenewStop};
-pub use tape::{MOST_ENTRIES, Store, Tape};
+pub use tape::{MAX_EXECUTIONS, Store, Tape};

@@ -3,7 +3,7 @@ ghost use Rattle.dcr_base.specs.Disk.{Stays, Torn, Wrote, IsSteady, LeavesOnly};
 ghost use Rattle.dcr_tape.specs.Tape.{Holds, part_bytes};
 ghost use Rattle.dcr_tape.specs.Opening.{Opened, Refused, IsCause, most_records};
 ghost use Rattle.dcr_tape.specs.Found.{part_found, CountsCause, CountsFaultOf};
-ghost use Rattle.dcr_tape.specs.Kept.{Keeps, KeptForRenewal, part_of, width_by};
+ghost use Rattle.dcr_tape.specs.Kept.{TapeHolds, KeptForRenewal, part_of, width_by};
 
 use crate::durable::write_durably;
 use crate::find::{FoundPart, find_part};
@@ -34,7 +34,7 @@ pub fn open_tape<D: Disk>(
 ) -> Result<(Tape<D>, Vec<TapeEntry>), TapeRefused<D>>
     ensures opened { IfOk result (λ opened. Opened (D.view disk) (D.view opened.0.disk)
         digest.now (part_of opened.0) opened.1.items) }
-    ensures keeps { IfOk result (λ opened. Keeps D.view opened.0 opened.1.items) }
+    ensures keeps { IfOk result (λ opened. TapeHolds D.view opened.0 opened.1.items) }
     ensures running { IfOk result (λ opened. opened.0.stopped ≡ false) }
     ensures refused { IfErr result (λ refused. Refused (D.view disk) (D.view refused.disk)
         digest.now refused.cause) }

@@ -1,6 +1,7 @@
 // One record of a tape.
 ghost use Rattle.std.specs.Prelude.{◌≡◌, ◌≤◌, ℕ, [], ◌∷◌, length, slice_index, IsTrue, IfOk};
-ghost use Rattle.dcr_base.specs.Disk.{Stays, CountsFault};
+ghost use Rattle.dcr_base.specs.Count.{CountsFault};
+ghost use Rattle.dcr_base.specs.Disk.{Stays};
 ghost use Rattle.dcr_tape.specs.Tape.{size_of, two_bytes};
 ghost use Rattle.dcr_tape.specs.Found.{IsRecord};
 ghost use Rattle.dcr_tape.specs.declared.width.Width.TheVariants.{Eight, Twelve};

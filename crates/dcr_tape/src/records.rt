@@ -1,6 +1,7 @@
 // The records of a part.
 ghost use Rattle.std.specs.Prelude.{◌≡◌, ◌+◌, ◌<◌, ◌≤◌, ◌^◌, length, IsTrue, IfOk, IfErr};
-ghost use Rattle.dcr_base.specs.Disk.{Stays, CountsFault};
+ghost use Rattle.dcr_base.specs.Count.{CountsFault};
+ghost use Rattle.dcr_base.specs.Disk.{Stays};
 ghost use Rattle.dcr_tape.specs.Tape.{IsShut, HasRecords, record_at};
 ghost use Rattle.dcr_tape.specs.Opening.{most_records};
 ghost use Rattle.dcr_tape.specs.Found.{part_found, EndsReading, CountsCause};

@@ -1,6 +1,6 @@
 ghost use Rattle.std.specs.Prelude.{◌≡◌, ◌⊎◌, ◌+◌, ◌*◌, ◌≤◌, ℕ, List, true, false, None, length, IsOk, IsErrOf, IfOk, OnOk, OnErr};
-ghost use Rattle.dcr_base.specs.Count.{Rose};
-ghost use Rattle.dcr_base.specs.Disk.{CountsFault, IsSteady, LeavesOnly};
+ghost use Rattle.dcr_base.specs.Count.{CountsFault, Rose};
+ghost use Rattle.dcr_base.specs.Disk.{IsSteady, LeavesOnly};
 ghost use Rattle.dcr_tape.specs.Tape.{StandsFor, part_bytes};
 ghost use Rattle.dcr_tape.specs.Renewing.{TornTwice, WroteTwice};
 
@@ -17,7 +17,7 @@ const SWITCH: u64 = 40;
 const POINTER: u64 = 41;
 
 impl<D: Disk> Tape<D> {
-    ghost use Rattle.dcr_tape.specs.Kept.{Keeps};
+    ghost use Rattle.dcr_tape.specs.Kept.{TapeHolds};
 
     /// Rewrites a tape of version 1 behind its end with records of 12 bytes, and switches it over: a write of the new
     /// part, a write of where it begins, a sync, a write of the switch, a sync. A tape that is renewed is left alone,
@@ -28,12 +28,12 @@ impl<D: Disk> Tape<D> {
     pub fn renew(&mut self, alloc: Global) -> Result<(), RenewStop>
         requires running { self.old.stopped ≡ false }
 
-        ensures kept { (E : List TapeEntry) → Keeps D.view self.old E
-            → OnOk result (Keeps D.view self.new E) }
-        ensures any_moment { (E : List TapeEntry) → Keeps D.view self.old E
+        ensures kept { (E : List TapeEntry) → TapeHolds D.view self.old E
+            → OnOk result (TapeHolds D.view self.new E) }
+        ensures any_moment { (E : List TapeEntry) → TapeHolds D.view self.old E
             → IsSteady (D.view self.old.disk)
             → LeavesOnly (D.view self.old.disk) (D.view self.new.disk) (StandsFor self.old.digest E) }
-        ensures steady { (E : List TapeEntry) → Keeps D.view self.old E
+        ensures steady { (E : List TapeEntry) → TapeHolds D.view self.old E
             → IsSteady (D.view self.old.disk) → OnOk result (IsSteady (D.view self.new.disk)) }
 
         ensures renewed { OnOk result (self.new.unrenewed ≡ None) }

@@ -1,6 +1,7 @@
 ghost use Rattle.std.specs.Prelude.{◌≡◌, ◌⊎◌, ◌+◌, ◌^◌, ◌<◌, ◌≤◌, ◌++◌, [], ◌∷◌, true, false, length, List, is_none, IsTrue, OnOk, OnErr};
 ghost use Rattle.std.specs.Option.{ForSome};
-ghost use Rattle.dcr_base.specs.Disk.{CountsFault, IsSteady, LeavesOnly};
+ghost use Rattle.dcr_base.specs.Count.{CountsFault};
+ghost use Rattle.dcr_base.specs.Disk.{IsSteady, LeavesOnly};
 ghost use Rattle.dcr_tape.specs.Tape.{StandsFor, payload_bytes};
 
 use crate::durable::write_durably;
@@ -8,12 +9,12 @@ use crate::{DiskFault, TapeEntry};
 use dcr_base::Disk;
 
 /// The entries that a tape may have at most.
-pub const MOST_ENTRIES: u32 = 1_200_000;
+pub const MAX_EXECUTIONS: u32 = 1_200_000;
 
 // How many bytes stand before the records of a part.
 pub(crate) const HEADER: u64 = 64;
 
-/// The executions of a case on a disk, which its content stands for (`Keeps`, `StandsFor`). It is stopped once a call of
+/// The executions of a case on a disk, which its content stands for (`TapeHolds`, `StandsFor`). It is stopped once a call of
 /// the disk has failed. Contracts see the disk, the part in force, the number of entries, and, of a tape that isn't
 /// renewed, its entries.
 #[derive(Drop)]
@@ -32,7 +33,7 @@ pub struct Tape<D> {
 }
 
 impl<D: Disk> Tape<D> {
-    ghost use Rattle.dcr_tape.specs.Kept.{Keeps};
+    ghost use Rattle.dcr_tape.specs.Kept.{TapeHolds};
 
     /// Puts an entry on the tape: a write of the record, a sync, a write of its gate, a sync; takes no memory. The tape
     /// is renewed, not stopped, and has fewer than 1,200,000 entries.
@@ -43,15 +44,15 @@ impl<D: Disk> Tape<D> {
     pub fn append(&mut self, entry: TapeEntry) -> Result<(), DiskFault>
         requires running { self.old.stopped ≡ false }
         requires renewed { IsTrue (is_none self.old.unrenewed) }
-        requires room { self.old.count < MOST_ENTRIES }
+        requires room { self.old.count < MAX_EXECUTIONS }
 
-        ensures kept { (E : List TapeEntry) → Keeps D.view self.old E
-            → OnOk result (Keeps D.view self.new (E ++ entry ∷ [])) }
-        ensures any_moment { (E : List TapeEntry) → Keeps D.view self.old E
+        ensures kept { (E : List TapeEntry) → TapeHolds D.view self.old E
+            → OnOk result (TapeHolds D.view self.new (E ++ entry ∷ [])) }
+        ensures any_moment { (E : List TapeEntry) → TapeHolds D.view self.old E
             → IsSteady (D.view self.old.disk)
             → LeavesOnly (D.view self.old.disk) (D.view self.new.disk)
             (λ c. StandsFor self.old.digest E c ⊎ StandsFor self.old.digest (E ++ entry ∷ []) c) }
-        ensures steady { (E : List TapeEntry) → Keeps D.view self.old E
+        ensures steady { (E : List TapeEntry) → TapeHolds D.view self.old E
             → IsSteady (D.view self.old.disk) → OnOk result (IsSteady (D.view self.new.disk)) }
 
         ensures counted { OnOk result (self.new.count ≡ self.old.count + 1) }

@@ -15,7 +15,7 @@ use Rattle.dcr_turn.specs.declared.record.Holder.{Holder}
 use Rattle.dcr_turn.specs.declared.record.Holder.TheVariants.{Journal, Site, Session}
 use Rattle.dcr_turn.specs.declared.record.Record.{Record}
 use Rattle.dcr_turn.specs.Records.{concerns, is_of_turn, once, times, told, first_seen, everyone, without, only, sites_from, sessions_from, same}
-use Rattle.dcr_turn.specs.Rule.{IsRight, Keeps}
+use Rattle.dcr_turn.specs.Rule.{IsRight, HasRightRecords}
 use Rattle.dcr_turn.specs.Steps.{Publishes, Sits, Stand, Hears, longer, with_longer, Compares, joined, kept, cut, IsJournalFirst}
 use Rattle.dcr_turn.proofs.Covering.{covers_itself, covers_one_more, covers_all, longer_covers}
 use Rattle.dcr_turn.proofs.Counting.{once_most, once_there, same_self, times-told, times-longer, times-append, times-joined, times-cut, times-parted, times-out, times-everyone, standing-set, standing-push, standing-has, standing-has_two}
@@ -89,7 +89,7 @@ module _ (A : List Set) (m : ℕ) where
   journal_whole [] J first all = absurd first
   journal_whole (r ∷ rs) J first all = covers_all (concerns A r.holder) (λ e. ap (λ (x : Holder). concerns A x e) first) r.seen J (All-head (IsRight A J) r rs all)
 
-  module _ (s : State Entry (List Record)) (kept : Keeps A m s) (id : ℕ) (v : List Record) (at : get_elem? s.views id ≡ some v) where
+  module _ (s : State (Unit {0}) (List Record)) (kept : HasRightRecords A m s) (id : ℕ) (v : List Record) (at : get_elem? s.views id ≡ some v) where
     right_here : All (IsRight A kept.history) v
     right_here = All-at (All (IsRight A kept.history)) s.views id v kept.right at
 
@@ -102,7 +102,7 @@ module _ (A : List Set) (m : ℕ) where
 
     -- a view of the same holders, each of them right, in its place, and the word as it is
     keeps_view : (w : List Record) → ((x : Holder) → times x w ≡ times x v) → All (IsRight A kept.history) w
-        → Keeps A m record { words = set s.words 0 (slice_index s.words 0); homes = s.homes; views = set s.views id w }
+        → HasRightRecords A m record { words = set s.words 0 (slice_index s.words 0); homes = s.homes; views = set s.views id w }
     keeps_view w counts right = record {
       history = kept.history;
       word = word_again s.words (length kept.history) kept.word;
@@ -145,7 +145,7 @@ module _ (A : List Set) (m : ℕ) where
           ])
 
   -- load
-  pub hears : (slots id : ℕ) (v : List Record) (out : List (ℕ × Entry)) → IsJournalFirst v → Allows (Keeps A m) slots id (v, out) 0 (λ n. n) (Hears A m (step slots 0 0 0 none) (v, out))
+  pub hears : (slots id : ℕ) (v : List Record) (out : List (ℕ × Unit {0})) → IsJournalFirst v → Allows (HasRightRecords A m) slots id (v, out) 0 (λ n. n) (Hears A m (step slots 0 0 0 none) (v, out))
   hears slots id v out first s kept len at bound =
       let whole = journal_whole v kept.history first (right_here s kept id v at) in (
         map (told (first_seen v)) v,
@@ -170,7 +170,7 @@ module _ (A : List Set) (m : ℕ) where
       (longer_right r q J (All-head (IsRight A J) r (q ∷ rs) all) (All-head (IsRight A J) q rs tail) (nat_lt (length r.seen) (length q.seen)) refl)
       tail
 
-  pub compares : (slots id : ℕ) (v : List Record) (out : List (ℕ × Entry)) → Allows (Keeps A m) slots id (v, out) 0 (λ n. n) (Compares A m (step slots 0 0 0 none) (v, out))
+  pub compares : (slots id : ℕ) (v : List Record) (out : List (ℕ × Unit {0})) → Allows (HasRightRecords A m) slots id (v, out) 0 (λ n. n) (Compares A m (step slots 0 0 0 none) (v, out))
   compares slots id v out s kept len at bound = (
     with_longer v,
     keeps,
@@ -180,9 +180,9 @@ module _ (A : List Set) (m : ℕ) where
   )
 
   -- publish
-  pub publishes : (slots id old : ℕ) (v : List Record) (out : List (ℕ × Entry)) (e : Entry) → IsJournalFirst v → old ≡ length (first_seen v) → e.session < m
+  pub publishes : (slots id old : ℕ) (v : List Record) (out : List (ℕ × Unit {0})) (e : Entry) → IsJournalFirst v → old ≡ length (first_seen v) → e.session < m
       → ((x : Holder) → is_of_turn A m x ≡ true → concerns A x e ≡ true → 0 < times x v)
-      → Allows (Keeps A m) slots id (v, out) 0 (λ n. either (n == old) (old + 1) n) (Publishes (step slots 0 old (old + 1) (some e)) (v, out))
+      → Allows (HasRightRecords A m) slots id (v, out) 0 (λ n. either (n == old) (old + 1) n) (Publishes e (step slots 0 old (old + 1) none) (v, out))
   publishes slots id old v out e first is below here s kept len at bound =
       let H = kept.history in
       let whole : first_seen v ≡ H = journal_whole v H first (right_here s kept id v at) in
@@ -200,12 +200,12 @@ module _ (A : List Set) (m : ℕ) where
           one_each = λ x. let a = standing-set x s.views id v w at in let b = kept.one_each x in let c = times-told x (first_seen v ++ e ∷ []) v in omega arith;
           below = All-push (λ (x : Entry). x.session < m) H e kept.below below;
         },
-        (λ entry said. ap (λ (x : Entry). (map (told (first_seen v ++ x ∷ [])) v, out)) (some-injective e entry said)),
+        refl,
       )
 
   -- split
   splits : (id : ℕ) (v left right : List Record) → ((x : Holder) → times x left + times x right ≡ times x v) → ((P : Record → Type 0) → All P v → All P left × All P right)
-      → Splits (Keeps A m) id v left right
+      → Splits (HasRightRecords A m) id v left right
   splits id v left right counts parts s kept at =
       let both = parts (IsRight A kept.history) (right_here s kept id v at) in record {
         history = kept.history;
@@ -215,17 +215,17 @@ module _ (A : List Set) (m : ℕ) where
         below = kept.below;
       }
 
-  pub cuts : (id : ℕ) (v : List Record) → Splits (Keeps A m) id v (kept v) (cut v)
+  pub cuts : (id : ℕ) (v : List Record) → Splits (HasRightRecords A m) id v (kept v) (cut v)
   cuts id v = splits id v (kept v) (cut v) (λ x. times-cut x v) (λ P all. (All-kept P v all, All-cut P v all))
 
-  pub takes_out : (id : ℕ) (y : Holder) (v : List Record) → Splits (Keeps A m) id v (without y v) (only y v)
+  pub takes_out : (id : ℕ) (y : Holder) (v : List Record) → Splits (HasRightRecords A m) id v (without y v) (only y v)
   takes_out id y v = splits id v (without y v) (only y v) (λ x. times-out x y v) (λ P all. (All-without P y v all, All-only P y v all))
 
-  pub parts : (id n : ℕ) (v : List Record) → Splits (Keeps A m) id v (take n v) (drop n v)
+  pub parts : (id n : ℕ) (v : List Record) → Splits (HasRightRecords A m) id v (take n v) (drop n v)
   parts id n v = splits id v (take n v) (drop n v) (λ x. times-parted x n v) (λ P all. (All-take P n v all, All-drop P n v all))
 
   -- a new seat
-  pub sits : (slots : ℕ) → Enters (Keeps A m) slots 0 (λ n w. Sits (step slots 0 0 0 none) ([], []) n (w, []))
+  pub sits : (slots : ℕ) → Enters (HasRightRecords A m) slots 0 (λ n w. Sits (step slots 0 0 0 none) ([], []) n (w, []))
   sits slots s kept len bound = (
     [],
     record {
@@ -240,7 +240,7 @@ module _ (A : List Set) (m : ℕ) where
 
   -- join
   joins_as : (id : ℕ) (v : List Record) (other : ℕ) (w u : List Record) → ((x : Holder) → times x u ≡ times x v + times x w) → ((P : Record → Type 0) → All P v → All P w → All P u)
-      → Joins (Keeps A m) id v other w u []
+      → Joins (HasRightRecords A m) id v other w u []
   joins_as id v other w u counts both s kept at ne there =
       let P = All (IsRight A kept.history) in
       let before : get_elem? s.views other ≡ some w = sym (set_else s.views id other u ne) ∙ there in record {
@@ -256,10 +256,10 @@ module _ (A : List Set) (m : ℕ) where
         below = kept.below;
       }
 
-  pub joins : (id : ℕ) (v : List Record) (other : ℕ) (w : List Record) → Joins (Keeps A m) id v other w (joined v w) []
+  pub joins : (id : ℕ) (v : List Record) (other : ℕ) (w : List Record) → Joins (HasRightRecords A m) id v other w (joined v w) []
   joins id v other w = joins_as id v other w (joined v w) (λ x. times-joined x v w) (λ P. All-joined P v w)
 
-  pub appends : (id : ℕ) (v : List Record) (other : ℕ) (w : List Record) → Joins (Keeps A m) id v other w (v ++ w) []
+  pub appends : (id : ℕ) (v : List Record) (other : ℕ) (w : List Record) → Joins (HasRightRecords A m) id v other w (v ++ w) []
   appends id v other w = joins_as id v other w (v ++ w) (λ x. times-append x v w) (λ P. All-append P v w)
 
   -- the table at the start
@@ -271,7 +271,7 @@ module _ (A : List Set) (m : ℕ) where
   All-sessions k zero = All-nil (IsRight A [])
   All-sessions k (suc n) = All-cons (IsRight A []) _ (sessions_from (k + 1) n) (covers_itself (concerns A (Session k)) []) (All-sessions (k + 1) n)
 
-  pub opens : Keeps A m (opening (0 ∷ []) [] (everyone (length A) m))
+  pub opens : HasRightRecords A m (opening (0 ∷ []) [] (everyone (length A) m))
   opens =
       let v = everyone (length A) m in record {
         history = [];

@@ -39,8 +39,8 @@ sites_counted J (i ∷ L) = ap (λ (is : List ℕ). i ∷ is) (sites_counted J L
 pub enlisted_is : (records : List Record) (J : List Entry) (L : List ℕ) → records ≡ all_know J L → sites_in records ≡ L
 enlisted_is records J L is = ap sites_in is ∙ sites_counted J L
 
-pub desk_again : (records : List Record) (J : List Entry) (L : List ℕ) → records ≡ all_know J L → records ≡ all_know J (sites_in records)
-desk_again records J L is = is ∙ ap (all_know J) (sym (enlisted_is records J L is))
+pub ledger_again : (records : List Record) (J : List Entry) (L : List ℕ) → records ≡ all_know J L → records ≡ all_know J (sites_in records)
+ledger_again records J L is = is ∙ ap (all_know J) (sym (enlisted_is records J L is))
 
 module _ (H J : List Entry) (L : List ℕ) (r q : Record) (records others now : List Record) where
   pub joined_is : records ≡ all_know H L → others ≡ r ∷ [] → now ≡ joined records others → now ≡ with_visitor H r L

@@ -12,5 +12,5 @@ pub mod BlankModel
 pub mod FrontModel
 pub mod FrontRowModel
 pub mod PassModel
-pub mod DeskValue
-pub mod DeskModel
+pub mod LedgerValue
+pub mod LedgerModel

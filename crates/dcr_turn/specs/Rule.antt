@@ -13,7 +13,7 @@ use Rattle.dcr_turn.specs.Records.{concerns, is_of_turn, once, standing}
 abbrev pub IsRight : List Set → List Entry → Record → Type 0
 IsRight alphabets J r = Covers (concerns alphabets r.holder) r.seen J
 
-pub record Keeps (alphabets : List Set) (sessions : ℕ) (s : State Entry (List Record)) : Type 0 where
+pub record HasRightRecords (alphabets : List Set) (sessions : ℕ) (s : State (Unit {0}) (List Record)) : Type 0 where
   -- the journal's list
   pub history : List Entry
   -- the word is its length

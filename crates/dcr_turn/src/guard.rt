@@ -28,7 +28,7 @@ impl<'a, K: Keeps, N: TurnName> Model for TurnGuard<'a, K, N> {
 
     ghost Value = { GuardValue K };
 
-    ghost view = { λ guard. record { entries = guard.beside.value.desk.entries; enlisted = guard.beside.value.desk.enlisted; kept = guard.beside.value.kept } };
+    ghost view = { λ guard. record { entries = guard.beside.value.ledger.entries; enlisted = guard.beside.value.ledger.enlisted; kept = guard.beside.value.kept } };
 }
 
 impl<'a, K: Keeps, N: TurnName> TurnGuard<'a, K, N> {
@@ -40,8 +40,8 @@ impl<'a, K: Keeps, N: TurnName> TurnGuard<'a, K, N> {
         order: &'a Order<N>,
         locked: Locked<K, N>,
     ) -> TurnGuard<'a, K, N>
-        ensures entries { result.entries ≡ locked.beside.value.desk.entries }
-        ensures enlisted { result.enlisted ≡ locked.beside.value.desk.enlisted }
+        ensures entries { result.entries ≡ locked.beside.value.ledger.entries }
+        ensures enlisted { result.enlisted ≡ locked.beside.value.ledger.enlisted }
         ensures kept { result.kept ≡ locked.beside.value.kept }
     {
         let Locked { beside } = locked;
@@ -50,6 +50,11 @@ impl<'a, K: Keeps, N: TurnName> TurnGuard<'a, K, N> {
             order,
             beside,
         }
+    }
+
+    /// Whether the lock was not free at once when it was taken. It says something of speed alone.
+    pub fn has_waited(&self) -> bool {
+        self.grip.has_waited()
     }
 
     /// The pass has seen the journal's list then, which begins with what it had seen. The session's entries there are
@@ -61,7 +66,7 @@ impl<'a, K: Keeps, N: TurnName> TurnGuard<'a, K, N> {
         ensures made { pass.new.made ≡ pass.old.made }
         ensures seen { HasMadeAll pass.old self.old.entries }
     {
-        self.beside.desk.meet(self.order, pass);
+        self.beside.ledger.meet(self.order, pass);
     }
 
     /// The front lies beside the journal then. It begins the journal's list, and no execution after it was of its
@@ -71,7 +76,7 @@ impl<'a, K: Keeps, N: TurnName> TurnGuard<'a, K, N> {
         ensures seen { HasMissedNone N.turn front self.old.entries }
         ensures apart { ¬ Contains self.old.enlisted front.site }
     {
-        self.beside.desk.enlist(self.order, front);
+        self.beside.ledger.enlist(self.order, front);
     }
 
     /// Gives back the front of an enlisted site. It has seen the journal's list.
@@ -81,7 +86,7 @@ impl<'a, K: Keeps, N: TurnName> TurnGuard<'a, K, N> {
         ensures site { result.site ≡ site }
         ensures front { result.front ≡ self.old.entries }
     {
-        self.beside.desk.dismiss(self.order, site)
+        self.beside.ledger.dismiss(self.order, site)
     }
 
     /// The fronts of the row lie beside the journal then, and none is left on it. Each begins the journal's list, and no
@@ -91,7 +96,7 @@ impl<'a, K: Keeps, N: TurnName> TurnGuard<'a, K, N> {
         ensures seen { All (λ front. HasMissedNone N.turn front self.old.entries) row.old }
         ensures row { row.new ≡ [] }
     {
-        self.beside.desk.enlist_row(self.order, row);
+        self.beside.ledger.enlist_row(self.order, row);
     }
 
     /// Gives the fronts of all enlisted sites to the row. They have seen the journal's list.
@@ -100,7 +105,7 @@ impl<'a, K: Keeps, N: TurnName> TurnGuard<'a, K, N> {
         ensures enlisted { self.new ≡ with_enlisted self.old [] }
         ensures row { row.new ≡ fronts_at self.old.entries self.old.enlisted }
     {
-        self.beside.desk.dismiss_row(self.order, row);
+        self.beside.ledger.dismiss_row(self.order, row);
     }
 
     /// Pushes the one entry of a call: of the pass's session, numbered by the calls that it made. The pass was met,
@@ -115,28 +120,28 @@ impl<'a, K: Keeps, N: TurnName> TurnGuard<'a, K, N> {
         ensures front { pass.new.front ≡ self.new.entries }
         ensures made { pass.new.made ≡ pass.old.made + 1 }
     {
-        self.beside.desk.push(self.order, pass, call, outcome);
+        self.beside.ledger.push(self.order, pass, call, outcome);
     }
 
     /// For how many more entries the journal has room.
     pub fn spare(&self) -> u32
         ensures { result + length self.now.entries ≡ N.capacity }
     {
-        self.beside.desk.spare()
+        self.beside.ledger.spare()
     }
 
     /// Whether the journal's list ends with a fault, which nobody can push behind.
     pub fn is_faulted(&self) -> bool
         ensures { result ≡ ends_in_fault self.now.entries }
     {
-        self.beside.desk.is_faulted()
+        self.beside.ledger.is_faulted()
     }
 
     /// The last entry of the journal. None exactly where there is none.
     pub fn last(&self) -> Option<Entry>
         ensures { result ≡ slice_get self.now.entries (length self.now.entries - 1) }
     {
-        self.beside.desk.last()
+        self.beside.ledger.last()
     }
 
     /// Lends the kept value, which may be changed at will.

@@ -2,11 +2,11 @@
 #![tactic(auto)]
 
 mod blank;
-mod desk;
 mod front;
 mod front_row;
 mod guard;
 mod laws;
+mod ledger;
 mod name;
 mod opening;
 mod order;

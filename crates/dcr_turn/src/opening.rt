@@ -3,7 +3,7 @@ ghost use Rattle.dcr_turn.specs.FrontValue.{new_fronts};
 ghost use Rattle.dcr_turn.specs.PassValue.{new_passes};
 ghost use Rattle.dcr_turn.specs.Records.{all_know, everyone, journal_and_sessions};
 
-use crate::desk::Desk;
+use crate::ledger::Ledger;
 use crate::order::Order;
 use crate::records::Records;
 use crate::turn::{Beside, Locked};
@@ -17,9 +17,9 @@ use std::alloc::{AllocFailed, Global};
 #[derive(Drop)]
 pub struct TurnReady<N: TurnName> {
     order: Order<N>,
-    desk: Desk<N>,
-    ghost empty: { desk.entries ≡ [] },
-    ghost alone: { desk.enlisted ≡ [] },
+    ledger: Ledger<N>,
+    ghost empty: { ledger.entries ≡ [] },
+    ghost alone: { ledger.enlisted ≡ [] },
 }
 
 impl<N: TurnName> TurnReady<N> {
@@ -52,7 +52,7 @@ impl<N: TurnName> TurnReady<N> {
         let passes = first_passes(alloc, &order, &mut records, sessions)?;
         let ready = TurnReady {
             order,
-            desk: Desk::new(journal, records),
+            ledger: Ledger::new(journal, records),
         };
         Ok((ready, fronts, passes))
     }
@@ -63,8 +63,8 @@ impl<N: TurnName> TurnReady<N> {
         requires { K.stands [] kept }
         ensures { IfErr result (λ refused. refused.kept ≡ kept) }
     {
-        let TurnReady { order, desk } = self;
-        let row = lay(alloc, Beside { desk, kept })?;
+        let TurnReady { order, ledger } = self;
+        let row = lay(alloc, Beside { ledger, kept })?;
         Ok(Turn::of(row, order))
     }
 }
@@ -74,21 +74,21 @@ fn lay<K: Keeps, N: TurnName>(
     alloc: Global,
     beside: Beside<K, N>,
 ) -> Result<Row<Locked<K, N>>, TurnRefused<K>>
-    requires enlisted { beside.desk.enlisted ≡ [] }
-    requires kept { K.stands beside.desk.entries beside.kept }
+    requires enlisted { beside.ledger.enlisted ≡ [] }
+    requires kept { K.stands beside.ledger.entries beside.kept }
     ensures one { IfOk result (λ row. row ≡ 1) }
     ensures refused { IfErr result (λ refused. refused.kept ≡ beside.kept) }
 {
     let beside = match Box::new(alloc, beside) {
         Ok(beside) => beside,
         Err(AllocFailed { value }) => {
-            let Beside { desk: _, kept } = value;
+            let Beside { ledger: _, kept } = value;
             return Err(TurnRefused { kept });
         }
     };
     let room = Vec::with_capacity(alloc, 1);
     let Ok(mut values) = room else {
-        let Beside { desk: _, kept } = Box::into_inner(beside);
+        let Beside { ledger: _, kept } = Box::into_inner(beside);
         return Err(TurnRefused { kept });
     };
     values.push_reserved(Locked { beside });
@@ -103,7 +103,7 @@ fn lay<K: Keeps, N: TurnName>(
         unreachable!()
     };
     values.destroy_empty();
-    let Beside { desk: _, kept } = Box::into_inner(beside);
+    let Beside { ledger: _, kept } = Box::into_inner(beside);
     Err(TurnRefused { kept })
 }
 

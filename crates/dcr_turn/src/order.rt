@@ -4,7 +4,6 @@ ghost use Rattle.std.specs.Prelude.{◌≡◌};
 use crate::TurnName;
 use crate::record::Record;
 use atomic_table::{Join, Play, Seat, Split, Table, TableRule};
-use dcr_journal::Entry;
 use dcr_proj::Network;
 use std::alloc::Global;
 use std::collections::LinkedList;
@@ -20,29 +19,45 @@ pub type Key = (Snapshot<Network>, u32);
 /// The rule. No value of it is made.
 pub struct OneHistory;
 
-impl TableRule<Entry, View, Key> for OneHistory {
+impl TableRule<(), View, Key> for OneHistory {
     ghost use Rattle.std.specs.Prelude.{length};
     ghost use Rattle.dcr_turn.specs.Records.{everyone};
-    ghost use Rattle.dcr_turn.specs.Rule.{Keeps};
+    ghost use Rattle.dcr_turn.specs.Rule.{HasRightRecords};
 
-    ghost holds = { λ key. Keeps key.0.value key.1 };
+    ghost holds = { λ key. HasRightRecords key.0.value key.1 };
 
     ghost first = { λ key. everyone (length key.0.value) key.1 };
 }
 
 /// One word, the length of the journal's list, and no slot.
-pub type LengthTable = Table<Entry, View, Key, OneHistory, Global>;
+pub type LengthTable = Table<(), View, Key, OneHistory, Global>;
 
 /// What steps on it.
-pub type RecordSeat = Seat<Entry, View>;
+pub type RecordSeat = Seat<(), View>;
 
-/// Publish: an entry is pushed.
-pub struct Publish;
+/// Names an entry.
+pub trait EntryName {
+    ghost use Rattle.dcr_journal.specs.declared.call.Entry.{Entry};
 
-impl Play<Entry, View> for Publish {
+    ghost entry: { Entry };
+}
+
+impl EntryName for std::marker::Brand {
+    ghost use Rattle.dcr_journal.specs.declared.call.Call.TheVariants.{Accepting};
+    ghost use Rattle.dcr_journal.specs.declared.call.Outcome.TheVariants.{AllDone};
+
+    ghost entry = { record { session = 0; seq = 0; call = Accepting; outcome = AllDone } };
+}
+
+/// Publish: the named entry is pushed.
+pub struct Publish<B> {
+    of: PhantomData<B>,
+}
+
+impl<B: EntryName> Play<(), View> for Publish<B> {
     ghost use Rattle.dcr_turn.specs.Steps.{Publishes};
 
-    ghost then = { Publishes };
+    ghost then = { Publishes B.entry };
 }
 
 /// Load: records hear of the journal's list, which stands first.
@@ -50,7 +65,7 @@ pub struct Hear<N> {
     of: PhantomData<N>,
 }
 
-impl<N: TurnName> Play<Entry, View> for Hear<N> {
+impl<N: TurnName> Play<(), View> for Hear<N> {
     ghost use Rattle.dcr_turn.specs.Steps.{Hears};
 
     ghost then = { Hears N.turn.alphabets N.turn.sessions };
@@ -61,7 +76,7 @@ pub struct Compare<N> {
     of: PhantomData<N>,
 }
 
-impl<N: TurnName> Play<Entry, View> for Compare<N> {
+impl<N: TurnName> Play<(), View> for Compare<N> {
     ghost use Rattle.dcr_turn.specs.Steps.{Compares};
 
     ghost then = { Compares N.turn.alphabets N.turn.sessions };
@@ -82,7 +97,7 @@ impl Join<View> for Behind {
 /// New seat: it has no record.
 pub struct Sit;
 
-impl Play<Entry, View> for Sit {
+impl Play<(), View> for Sit {
     ghost use Rattle.dcr_turn.specs.Steps.{Sits};
 
     ghost then = { Sits };

@@ -8,11 +8,11 @@ ghost use Rattle.dcr_journal.specs.declared.call.Entry.{Entry};
 
 use crate::TurnName;
 use crate::order::{
-    AtEnd, Behind, Compare, Hear, Named, Onward, Order, Place, Publish, RecordSeat, Second, Sit,
-    View, Which,
+    AtEnd, Behind, Compare, EntryName, Hear, Named, Onward, Order, Place, Publish, RecordSeat,
+    Second, Sit, View, Which,
 };
 use atomic_table::Badge;
-use dcr_journal::Entry;
+use dcr_journal::{Call, Outcome};
 use dcr_set::SiteId;
 use std::marker::{Model, PhantomData};
 use std::mem;
@@ -134,19 +134,33 @@ impl<N: TurnName> Records<N> {
         order.table.shared.load::<Compare<N>>(&mut self.seat, 0);
     }
 
-    /// An entry is pushed onto the journal's list, which has this length. The journal's record stands first, and each
+    /// The entry of this call, which is the one that is named, is pushed onto the journal's list, which has this length. The journal's record stands first, and each
     /// of the turn whom the entry concerns has its record here.
-    pub(crate) fn publish(&mut self, order: &Order<N>, len: u32, entry: &Entry)
+    pub(crate) fn publish<B: EntryName>(
+        &mut self,
+        order: &Order<N>,
+        len: u32,
+        session: u32,
+        seq: u32,
+        call: &Call,
+        outcome: &Outcome,
+    )
+        requires named { B.entry ≡ record { session = session; seq = seq; call = call.now; outcome = outcome.now } }
         requires journal { IsJournalFirst self.old }
         requires len { len ≡ length (first_seen self.old) }
-        requires session { entry.now.session < N.turn.sessions }
-        requires concerned { (x : Holder) → is_of_turn N.turn.alphabets N.turn.sessions x ≡ true → concerns N.turn.alphabets x entry.now ≡ true → 0 < times x self.old }
-        ensures { self.new ≡ map (told (first_seen self.old ++ entry.now ∷ [])) self.old }
+        requires session { B.entry.session < N.turn.sessions }
+        requires concerned { (x : Holder) → is_of_turn N.turn.alphabets N.turn.sessions x ≡ true → concerns N.turn.alphabets x B.entry ≡ true → 0 < times x self.old }
+        ensures { self.new ≡ map (told (first_seen self.old ++ B.entry ∷ [])) self.old }
     {
+        // What is pushed is read by clauses alone.
+        let _ = session;
+        let _ = seq;
+        let _ = call;
+        let _ = outcome;
         let was = u64::from(len);
         order
             .table
             .shared
-            .compare_exchange_with::<Publish>(&mut self.seat, 0, was, was + 1, entry);
+            .compare_exchange::<Publish<B>>(&mut self.seat, 0, was, was + 1);
     }
 }

@@ -4,7 +4,7 @@ ghost use Rattle.dcr_journal.specs.declared.call.Entry.{Entry};
 ghost use Rattle.dcr_turn.specs.FrontValue.{FrontValue, HasMissedNone, new_fronts};
 ghost use Rattle.dcr_turn.specs.PassValue.{HasMadeAll, new_passes};
 
-use crate::desk::Desk;
+use crate::ledger::Ledger;
 use crate::order::Order;
 use crate::{Front, FrontRow, Keeps, Pass, TurnBlank, TurnGuard, TurnName, TurnReady};
 use dcr_journal::Journal;
@@ -16,7 +16,7 @@ use std::sync::Wait;
 /// The journal and what is kept beside it.
 #[derive(Drop)]
 pub(crate) struct Beside<K, N: TurnName> {
-    pub(crate) desk: Desk<N>,
+    pub(crate) ledger: Ledger<N>,
     pub(crate) kept: K,
 }
 
@@ -30,7 +30,7 @@ pub(crate) struct Locked<K, N: TurnName> {
 impl<K: Keeps, N: TurnName> Placed for Locked<K, N> {
     ghost use Rattle.std.specs.Prelude.{◌≡◌, []};
 
-    ghost belongs = { λ _ locked. (locked.beside.value.desk.enlisted ≡ []) × K.stands locked.beside.value.desk.entries locked.beside.value.kept };
+    ghost belongs = { λ _ locked. (locked.beside.value.ledger.enlisted ≡ []) × K.stands locked.beside.value.ledger.entries locked.beside.value.kept };
 }
 
 /// The journal and a kept value behind one lock: the one order of all calls. Threads share it by reference.
@@ -140,10 +140,10 @@ impl<K: Keeps, N: TurnName> Turn<K, N> {
         let Turn { row, order } = self;
         let mut end = row.close();
         let Locked { beside } = end.take(rt);
-        let Beside { mut desk, kept } = Box::into_inner(beside);
+        let Beside { mut ledger, kept } = Box::into_inner(beside);
         end.finish();
-        desk.enlist_all(&order, fronts);
-        desk.meet_all(&order, passes);
-        (desk.into_journal(&order), kept)
+        ledger.enlist_all(&order, fronts);
+        ledger.meet_all(&order, passes);
+        (ledger.into_journal(&order), kept)
     }
 }

@@ -5,6 +5,7 @@ mod deal;
 mod laws;
 mod run;
 mod session;
+mod turnstile;
 mod worker;
 
 pub use laws::history_in_worker_order;

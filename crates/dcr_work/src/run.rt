@@ -6,6 +6,7 @@ ghost use Rattle.dcr_work.specs.Dealing.{IsNew};
 ghost use Rattle.dcr_work.specs.Working.{AllHands, AllWorked, HaveWorked};
 
 use crate::deal::{deal, empty_hands, gather};
+use crate::turnstile::{Turnstile, turnstile};
 use crate::worker::work;
 use dcr_base::{Disk, Gate};
 use dcr_cell::StoreName;
@@ -55,9 +56,12 @@ pub fn run_sessions<
     let Ok(mut hands) = hands else {
         return Err(RunStop { passes });
     };
+    let Ok(turnstile) = turnstile(alloc) else {
+        return Err(RunStop { passes });
+    };
     let dealt = hands.as_mut_slice();
     deal(&mut passes, dealt);
-    at_work(rt, cluster, dealt, sessions);
+    at_work(rt, cluster, dealt, sessions, &turnstile);
     gather(&mut passes, dealt, count);
     Ok(passes)
 }
@@ -68,7 +72,14 @@ fn at_work<
     G: Gate + Drop + Sync,
     N: StoreName<D> + Send + Sync,
     R: Threads + Wait + Sync,
->(rt: &R, cluster: &Cluster<D, G, N>, hands: &mut [Vec<Pass<N>>], sessions: &[CallList])
+>(
+    rt: &R,
+    cluster: &Cluster<D, G, N>,
+    hands: &mut [Vec<Pass<N>>],
+    sessions: &[CallList],
+    turnstile: &Turnstile,
+)
+    requires turnstile { 0 < turnstile.now }
     requires some { 0 < length hands.old }
     requires in_range { All (λ calls. All (IsCall N.cluster) calls) sessions.now }
     requires new { All (λ hand. All (IsNew (length sessions.now)) hand.items) hands.old }
@@ -81,8 +92,8 @@ fn at_work<
         hands,
         workers,
         &|_, hand: &mut Vec<Pass<N>>|
-            requires { All (λ calls. All (IsCall N.cluster) calls) sessions.now × All (IsNew (length sessions.now)) hand.now.items }
+            requires { All (λ calls. All (IsCall N.cluster) calls) sessions.now × All (IsNew (length sessions.now)) hand.now.items × (0 < turnstile.now) }
             ensures { HaveWorked N.cluster N.first N.capacity sessions.entry.now hand.entry.now.items hand.exit.now.items }
-        { work(rt, cluster, hand.as_mut_slice(), sessions) },
+        { work(rt, cluster, hand.as_mut_slice(), sessions, turnstile) },
     );
 }

@@ -3,9 +3,7 @@ use Rattle.std.specs.Io.KnownBytes.{Appends}
 use Rattle.std.specs.Vec.Iter.{into_iter_items}
 use Rattle.std.proofs.lemmas.List.{append-nil}
 use Rattle.std.specs.Process.{exit_status}
-use Rattle.dcr_base.specs.Side.{side}
 use Rattle.dcr_app.specs.Command.{command_in}
-use Rattle.dcr_app.specs.Telling.{doors_of}
 use Rattle.dcr.specs.Exit.{Exits, IsUntouched, Outside, outside}
 use Rattle.dcr.proofs.program.Goals as goal
 
@@ -20,10 +18,9 @@ untouched door disk was = record { read = refl; wrote = (appends_nothing was.out
 pub returns-in-Err-behind_first-clause-words : goal.returns-in-Err-behind_first-clause-words
 returns-in-Err-behind_first-clause-words g c =
     let input = c.args.input.now in let output = c.args.output.now in
-    let was = outside (side (g.I.Source.left input) (g.I.Source.read_faults input)) (g.I.Source.has_ended input) (side (g.O.Sink.taken output) (g.O.Sink.write_faults output)) in
+    let was = outside (g.I.Source.gives input) (g.I.Source.has_ended input) (g.O.Sink.takes output) in
     let code = exit_status c.starved.result.code in let view = g.D.Disk.view in let faults = g.D.Disk.faults in
-    let doors = doors_of g.B.Door.links g.B.Door.is_shut g.B.Door.faults g.B.Link.Source.left g.B.Link.Sink.taken g.B.Link.Rest.Spent.unread g.B.Link.Rest.Spent.sent g.B.Link.Rest.Spent.failed_reads
-    g.B.Link.Rest.Spent.failed_writes in
+    let doors = g.B.Door.tells in
     subst (λ words. IfOk words (λ args. Exits view faults doors (command_in (drop 1 (into_iter_items args))) c.args.door c.args.disk was was code c.starved.result.answer)) (sym c.in-Ok.is)
     (subst (λ answer. Exits view faults doors (command_in (drop 1 (into_iter_items c.in-Ok.words))) c.args.door c.args.disk was was code answer) (sym c.starved.ensures.answer)
     (c.starved.ensures.code, untouched c.args.door c.args.disk was))
@@ -32,10 +29,9 @@ returns-in-Err-behind_first-clause-words g c =
 pub returns-in-Ok-behind_first-clause-words : goal.returns-in-Ok-behind_first-clause-words
 returns-in-Ok-behind_first-clause-words g c =
     let input = c.args.input.now in let output = c.args.output.now in let input' = c.answer.new.input in let output' = c.answer.new.output in
-    let was = outside (side (g.I.Source.left input) (g.I.Source.read_faults input)) (g.I.Source.has_ended input) (side (g.O.Sink.taken output) (g.O.Sink.write_faults output)) in
-    let now = outside (side (g.I.Source.left input') (g.I.Source.read_faults input')) (g.I.Source.has_ended input') (side (g.O.Sink.taken output') (g.O.Sink.write_faults output')) in
+    let was = outside (g.I.Source.gives input) (g.I.Source.has_ended input) (g.O.Sink.takes output) in
+    let now = outside (g.I.Source.gives input') (g.I.Source.has_ended input') (g.O.Sink.takes output') in
     let code = exit_status c.answer.result.code in let view = g.D.Disk.view in let faults = g.D.Disk.faults in
-    let doors = doors_of g.B.Door.links g.B.Door.is_shut g.B.Door.faults g.B.Link.Source.left g.B.Link.Sink.taken g.B.Link.Rest.Spent.unread g.B.Link.Rest.Spent.sent g.B.Link.Rest.Spent.failed_reads
-    g.B.Link.Rest.Spent.failed_writes in
+    let doors = g.B.Door.tells in
     subst (λ words. IfOk words (λ args. Exits view faults doors (command_in (drop 1 (into_iter_items args))) c.args.door c.args.disk was now code c.answer.result.answer)) (sym c.in-Ok.is)
     (subst (λ words. Exits view faults doors (command_in words) c.args.door c.args.disk was now code c.answer.result.answer) (c.deref.ensures.value ∙ c.in-Ok-behind_first.ensures) c.answer.ensures)

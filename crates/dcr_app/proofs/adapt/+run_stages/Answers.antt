@@ -17,7 +17,7 @@ use Rattle.dcr_app.proofs.adapt.+run_stages.Goals as goal
 
 pub returns-in_default-clause-runs : goal.returns-in_default-clause-runs
 returns-in_default-clause-runs g n c =
-    let had = side (g.O.Sink.taken c.args.output.now) (g.O.Sink.write_faults c.args.output.now) in
+    let had = side (g.O.Sink.takes c.args.output.now).bytes (g.O.Sink.takes c.args.output.now).faults in
     ends_as_told (stages_from (case_of c.args.case.now) c.args.opening.now (map case_of c.args.rest.now)) c.args.before had had NoMemory c.args.before c.ended.result c.ended.ensures
     (runs_none (case_of c.args.case.now) c.args.opening.now (map case_of c.args.rest.now) c.args.before had)
 
@@ -25,7 +25,7 @@ pub returns-then-not-matches-clause-runs : goal.returns-then-not-matches-clause-
 returns-then-not-matches-clause-runs g n c =
     let rest = map case_of c.args.rest.now in let closed = c.in-Some.closed in let case = c.args.case.now in
     let ran = subst (λ (o : Option Closed). IfSome o (RanStage case.graph case.cover.owned c.args.opening.now case.sessions)) c.in-Some.is c.run_stage-ran.ensures.ran in
-    let had = side (g.O.Sink.taken c.args.output.now) (g.O.Sink.write_faults c.args.output.now) in let took = side (g.O.Sink.taken c.report-status.new.output) (g.O.Sink.write_faults c.report-status.new.output) in let status = c.report-status.result in
+    let had = side (g.O.Sink.takes c.args.output.now).bytes (g.O.Sink.takes c.args.output.now).faults in let took = side (g.O.Sink.takes c.report-status.new.output).bytes (g.O.Sink.takes c.report-status.new.output).faults in let status = c.report-status.result in
     let other : status ≢ Done = λ done. elim c.match-matches.branch [
       | in-Done w ↦ absurd (let yes = c.if-not-matches.true in let is = w.matches-is in cc)
       | in_default-matches w ↦ absurd (w.in_default-matches.not-Done done)
@@ -37,7 +37,7 @@ pub returns-in_default-split_first-clause-runs : goal.returns-in_default-split_f
 returns-in_default-split_first-clause-runs g n c =
     let rest = map case_of c.args.rest.now in let closed = c.in-Some.closed in let case = c.args.case.now in
     let ran = subst (λ (o : Option Closed). IfSome o (RanStage case.graph case.cover.owned c.args.opening.now case.sessions)) c.in-Some.is c.run_stage-ran.ensures.ran in
-    let had = side (g.O.Sink.taken c.args.output.now) (g.O.Sink.write_faults c.args.output.now) in let took = side (g.O.Sink.taken c.report-status.new.output) (g.O.Sink.write_faults c.report-status.new.output) in
+    let had = side (g.O.Sink.takes c.args.output.now).bytes (g.O.Sink.takes c.args.output.now).faults in let took = side (g.O.Sink.takes c.report-status.new.output).bytes (g.O.Sink.takes c.report-status.new.output).faults in
     let done : c.report-status.result ≡ Done = (elim c.match-matches.branch [
       | in-Done w ↦ w.in-Done.is
       | in_default-matches w ↦ absurd (let no = c.if-not-matches.false in let is = w.matches-is in cc)
@@ -51,7 +51,7 @@ pub returns-in_default-carry-clause-runs : goal.returns-in_default-carry-clause-
 returns-in_default-carry-clause-runs g n c =
     let rest = map case_of c.args.rest.now in let closed = c.in-Some.closed in let case = c.args.case.now in
     let ran = subst (λ (o : Option Closed). IfSome o (RanStage case.graph case.cover.owned c.args.opening.now case.sessions)) c.in-Some.is c.run_stage-ran.ensures.ran in
-    let had = side (g.O.Sink.taken c.args.output.now) (g.O.Sink.write_faults c.args.output.now) in let took = side (g.O.Sink.taken c.report-status.new.output) (g.O.Sink.write_faults c.report-status.new.output) in
+    let had = side (g.O.Sink.takes c.args.output.now).bytes (g.O.Sink.takes c.args.output.now).faults in let took = side (g.O.Sink.takes c.report-status.new.output).bytes (g.O.Sink.takes c.report-status.new.output).faults in
     let done : c.report-status.result ≡ Done = (elim c.match-matches.branch [
       | in-Done w ↦ w.in-Done.is
       | in_default-matches w ↦ absurd (let no = c.if-not-matches.false in let is = w.matches-is in cc)
@@ -76,7 +76,7 @@ pub returns-clause-runs : goal.returns-clause-runs
 returns-clause-runs g n c =
     let rest = map case_of c.args.rest.now in let closed = c.in-Some.closed in let case = c.args.case.now in
     let ran = subst (λ (o : Option Closed). IfSome o (RanStage case.graph case.cover.owned c.args.opening.now case.sessions)) c.in-Some.is c.run_stage-ran.ensures.ran in
-    let had = side (g.O.Sink.taken c.args.output.now) (g.O.Sink.write_faults c.args.output.now) in let mid = side (g.O.Sink.taken c.report-status.new.output) (g.O.Sink.write_faults c.report-status.new.output) in let took = side (g.O.Sink.taken c.run_stages.new.output) (g.O.Sink.write_faults c.run_stages.new.output) in
+    let had = side (g.O.Sink.takes c.args.output.now).bytes (g.O.Sink.takes c.args.output.now).faults in let mid = side (g.O.Sink.takes c.report-status.new.output).bytes (g.O.Sink.takes c.report-status.new.output).faults in let took = side (g.O.Sink.takes c.run_stages.new.output).bytes (g.O.Sink.takes c.run_stages.new.output).faults in
     let done : c.report-status.result ≡ Done = (elim c.match-matches.branch [
       | in-Done w ↦ w.in-Done.is
       | in_default-matches w ↦ absurd (let no = c.if-not-matches.false in let is = w.matches-is in cc)

@@ -1,4 +1,3 @@
-use Rattle.dcr_base.specs.Side.{side}
 use Rattle.std.proofs.Common.{◌≡◌, ◌∷◌, List, length, map, Ok, sym, ap, subst, ◌∙◌}
 use Rattle.std.specs.List.{All, IsFirstAndRest}
 use Rattle.std.specs.Prelude.{MatchOption}
@@ -10,7 +9,7 @@ use Rattle.dcr_app.proofs.adapt.adapt.Goals as goal
 
 pub returns-in-Err-clause-answers : goal.returns-in-Err-clause-answers
 returns-in-Err-clause-answers g c =
-    stopped_stages c.args.bytes.now c.in-Err.stop (side (g.O.Sink.taken c.args.output.now) (g.O.Sink.write_faults c.args.output.now)) (side (g.O.Sink.taken c.refuse_stages.new.output) (g.O.Sink.write_faults c.refuse_stages.new.output)) c.refuse_stages.result c.ended.result c.ended.ensures c.in-Err.ensures.says c.refuse_stages.ensures
+    stopped_stages c.args.bytes.now c.in-Err.stop (g.O.Sink.takes c.args.output.now) (g.O.Sink.takes c.refuse_stages.new.output) c.refuse_stages.result c.ended.result c.ended.ensures c.in-Err.ensures.says c.refuse_stages.ensures
 
 -- the cases that were read are a first one and those behind it
 split : (g : _) (c : goal.After-run_stages-arg-1 g) → c.in-Ok.cases.items ≡ c.unwrap.result.0.now ∷ c.unwrap.result.1.now
@@ -34,5 +33,5 @@ returns-in-Ok-clause-answers g c =
     let first = c.unwrap.result.0.now in let rest = c.unwrap.result.1.now in
     let split : c.in-Ok.cases.items ≡ first ∷ rest =
     sym c.deref.ensures.value ∙ (subst (λ o. MatchOption o (length c.deref.result.now ≡ 0) (λ p. IsFirstAndRest c.deref.result.now p.0.now p.1.now)) c.unwrap.ensures c.split_first.ensures.cases).0 in
-    told_stages c.args.bytes.now (case_of first) (map case_of rest) (side (g.O.Sink.taken c.args.output.now) (g.O.Sink.write_faults c.args.output.now)) (side (g.O.Sink.taken c.run_stages.new.output) (g.O.Sink.write_faults c.run_stages.new.output)) c.run_stages.result.0.status c.run_stages.result.0.closed
+    told_stages c.args.bytes.now (case_of first) (map case_of rest) (g.O.Sink.takes c.args.output.now) (g.O.Sink.takes c.run_stages.new.output) c.run_stages.result.0.status c.run_stages.result.0.closed
     (c.in-Ok.ensures.says ∙ ap (λ (l : List Case). Ok (map case_of l)) split) c.run_stages.ensures.runs

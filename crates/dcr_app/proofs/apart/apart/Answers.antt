@@ -1,12 +1,11 @@
-use Rattle.dcr_base.specs.Side.{side}
 use Rattle.dcr_app.proofs.RunLemmas.{case_of_both, case_of_stop, stopped_run}
 use Rattle.dcr_app.proofs.ApartLemmas.{stopped_apart}
 use Rattle.dcr_app.proofs.apart.apart.Goals as goal
 
 pub returns-in-Err : goal.returns-in-Err
 returns-in-Err g c =
-    stopped_apart c.args.bytes.now (side (g.O.Sink.taken c.args.output.now) (g.O.Sink.write_faults c.args.output.now)) (side (g.O.Sink.taken c.refuse.new.output) (g.O.Sink.write_faults c.refuse.new.output)) c.refuse.result c.ended.result c.ended.ensures
-    (stopped_run c.args.bytes.now c.in-Err.stop (side (g.O.Sink.taken c.args.output.now) (g.O.Sink.write_faults c.args.output.now)) (side (g.O.Sink.taken c.refuse.new.output) (g.O.Sink.write_faults c.refuse.new.output)) c.refuse.result (λ had_memory. case_of_stop c.args.bytes.now c.in-Err.stop (c.in-Err.ensures.says had_memory))
+    stopped_apart c.args.bytes.now (g.O.Sink.takes c.args.output.now) (g.O.Sink.takes c.refuse.new.output) c.refuse.result c.ended.result c.ended.ensures
+    (stopped_run c.args.bytes.now c.in-Err.stop (g.O.Sink.takes c.args.output.now) (g.O.Sink.takes c.refuse.new.output) c.refuse.result (λ had_memory. case_of_stop c.args.bytes.now c.in-Err.stop (c.in-Err.ensures.says had_memory))
     c.refuse.ensures.told c.refuse.ensures.starved)
 
 pub returns-in-Ok : goal.returns-in-Ok

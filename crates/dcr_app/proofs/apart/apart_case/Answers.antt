@@ -16,12 +16,12 @@ report-status-requires-clause-legal g c =
 
 pub returns-in_default : goal.returns-in_default
 returns-in_default g c = λ bytes spelled.
-    let had = side (g.O.Sink.taken c.args.output.now) (g.O.Sink.write_faults c.args.output.now) in stopped_apart bytes had had _ c.ended.result c.ended.ensures (inl (refl, adds_nothing had))
+    let had = side (g.O.Sink.takes c.args.output.now).bytes (g.O.Sink.takes c.args.output.now).faults in stopped_apart bytes had had _ c.ended.result c.ended.ensures (inl (refl, adds_nothing had))
 
 pub returns : goal.returns
 returns g c = λ bytes spelled.
     let case = c.args.case.now in let Room : Rules → Type 0 = λ R. HasRoom R.atoms case.opening in
-    let had = side (g.O.Sink.taken c.args.output.now) (g.O.Sink.write_faults c.args.output.now) in let took = side (g.O.Sink.taken c.report-status.new.output) (g.O.Sink.write_faults c.report-status.new.output) in
+    let had = side (g.O.Sink.takes c.args.output.now).bytes (g.O.Sink.takes c.args.output.now).faults in let took = side (g.O.Sink.takes c.report-status.new.output).bytes (g.O.Sink.takes c.report-status.new.output).faults in
     told_apart bytes had took c.report-status.result c.in-Ok.closed c.in-Ok.world c.ended-2.result c.ended-2.ensures
     (tells_apart (cases_are_accepted c.when_each_refusal_comes.ensures.accepted) c.told_has_each_call.ensures.sessions bytes (case_of case) had took c.report-status.result c.in-Ok.closed c.in-Ok.world spelled
     c.requires.accepted_graph c.requires.accepted_cover (subst Room c.requires.flat.related c.requires.opening) c.requires.most_sessions

@@ -24,7 +24,7 @@ tell-status-requires g c =
 pub returns-in-Ok-clause-answers : goal.returns-in-Ok-clause-answers
 returns-in-Ok-clause-answers g c =
     let case = c.args.case.now in let closed = c.in-Ok.field-0.closed in let last = c.in-Ok.field-0.store in
-    let view = g.D.Disk.view in let faults = g.D.Disk.faults in let had = side (g.O.Sink.taken c.args.output.now) (g.O.Sink.write_faults c.args.output.now) in let took = side (g.O.Sink.taken c.tell-status.new.output) (g.O.Sink.write_faults c.tell-status.new.output) in
+    let view = g.D.Disk.view in let faults = g.D.Disk.faults in let had = side (g.O.Sink.takes c.args.output.now).bytes (g.O.Sink.takes c.args.output.now).faults in let took = side (g.O.Sink.takes c.tell-status.new.output).bytes (g.O.Sink.takes c.tell-status.new.output).faults in
     let same : cluster_of case.graph case.cover case.opening [] ≡ cluster_in (case_of case) [] =
     ap (λ (G : Rules). record { rules = G; owned = case.cover.owned; opening = case.opening; old = [] }) c.requires.case.flat.related in
     let OverCluster : ClusterId → Type 0 = λ k. HasRun view faults k (Off c.args.disk) 1 case.sessions closed last in
@@ -35,4 +35,4 @@ returns-in-Ok-clause-answers g c =
     (tells_load view faults c.ordered_is_told.ensures c.loads_are_large.ensures.calls c.args.number (case_of case) c.args.disk closed last had took c.tell-status.result c.requires.load ran wrote)
 
 pub returns-in-Err-clause-answers : goal.returns-in-Err-clause-answers
-returns-in-Err-clause-answers g c = load_starved c.args.number (side (g.O.Sink.taken c.args.output.now) (g.O.Sink.write_faults c.args.output.now)) c.ended-in-Err.result c.ended-in-Err.ensures
+returns-in-Err-clause-answers g c = load_starved c.args.number (g.O.Sink.takes c.args.output.now) c.ended-in-Err.result c.ended-in-Err.ensures

@@ -1,5 +1,4 @@
 use Rattle.std.proofs.Common.{◌≡◌, List, length, sym, ap, subst}
-use Rattle.dcr_base.specs.Side.{side}
 use Rattle.dcr_graph.specs.GraphValue.{rules_of}
 use Rattle.dcr_graph.specs.Projection.{HasRoom}
 use Rattle.dcr_graph.specs.Rules.{Rules}
@@ -65,5 +64,5 @@ returns-in-Err-clause-over g c =
       last = last;
       same = c.disk_of-in-Err.ensures;
       refused = subst Left same c.in-Err.ensures.refused;
-      ends = subst (λ why. EndsFor why c.refuse_tape.result (side (g.O.Sink.taken c.args.output.now) (g.O.Sink.write_faults c.args.output.now)) (side (g.O.Sink.taken c.refuse_tape.new.output) (g.O.Sink.write_faults c.refuse_tape.new.output))) c.cause_of.ensures c.refuse_tape.ensures;
+      ends = subst (λ why. EndsFor why c.refuse_tape.result (g.O.Sink.takes c.args.output.now) (g.O.Sink.takes c.refuse_tape.new.output)) c.cause_of.ensures c.refuse_tape.ensures;
     }

@@ -1,9 +1,8 @@
 use Rattle.std.proofs.Common.{refl}
-use Rattle.dcr_base.specs.Side.{side}
 use Rattle.dcr_app.proofs.LinksLemmas.{nothing_of}
 use Rattle.dcr_app.proofs.stored.report_served.Goals as goal
 
 pub returns-then-no_memory-clause-wrote : goal.returns-then-no_memory-clause-wrote
 returns-then-no_memory-clause-wrote g c =
     let case = c.args.case.now in let closed = c.args.closed.now in
-    (c.due_served-due.result, c.due_served-due.ensures.due, (nothing_of case.nested case.cover closed.opening closed.history.entries (side (g.O.Sink.taken c.args.output.now) (g.O.Sink.write_faults c.args.output.now)), refl))
+    (c.due_served-due.result, c.due_served-due.ensures.due, (nothing_of case.nested case.cover closed.opening closed.history.entries (g.O.Sink.takes c.args.output.now), refl))

@@ -6,8 +6,8 @@ use Rattle.dcr_base.proofs.reading.read_all.Given as goal
 abbrev pub invariant-loop-bytes : goal.invariant-loop-bytes
 invariant-loop-bytes g l = record {
   within : vec_len l.bytes ≤ l.limit;
-  taken : Consumes (g.S.Source.left l.initial.source) (g.S.Source.left l.source) l.bytes.items;
-  no_fault : g.S.Source.read_faults l.source ≡ g.S.Source.read_faults l.initial.source;
+  taken : Consumes (g.S.Source.gives l.initial.source).bytes (g.S.Source.gives l.source).bytes l.bytes.items;
+  no_fault : (g.S.Source.gives l.source).faults ≡ (g.S.Source.gives l.initial.source).faults;
 }
 
 abbrev pub decreases-loop-bytes : goal.decreases-loop-bytes

@@ -11,6 +11,6 @@ loop-written-preserved g c =
     record {
       within = search rules;
       taken = Appends-take _ _ _ bytes _ written c.in-Ok.n (take_rest bytes written) before.taken c.in-Ok.ensures.appended;
-      no_fault = c.in-Ok.ensures.ok_counts_none ∙ before.no_fault;
+      no_fault = c.in-Ok.ensures.counts ∙ before.no_fault;
       apart = c.in-Ok.ensures.apart ∙ before.apart;
     }

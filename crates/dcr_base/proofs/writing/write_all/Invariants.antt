@@ -6,8 +6,8 @@ use Rattle.dcr_base.proofs.writing.write_all.Given as goal
 abbrev pub invariant-loop-written : goal.invariant-loop-written
 invariant-loop-written g l = record {
   within : l.written ≤ length l.bytes;
-  taken : Appends (g.O.Sink.taken l.initial.sink) (g.O.Sink.taken l.sink) (take l.written l.bytes);
-  no_fault : g.O.Sink.write_faults l.sink ≡ g.O.Sink.write_faults l.initial.sink;
+  taken : Appends (g.O.Sink.takes l.initial.sink).bytes (g.O.Sink.takes l.sink).bytes (take l.written l.bytes);
+  no_fault : (g.O.Sink.takes l.sink).faults ≡ (g.O.Sink.takes l.initial.sink).faults;
   apart : g.O.Sink.source_side l.sink ≡ g.O.Sink.source_side l.initial.sink;
 }
 

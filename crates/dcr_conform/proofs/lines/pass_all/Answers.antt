@@ -21,7 +21,7 @@ returns-in_err-pass_traces-clause-stopped g c =
     let traces = c.args.traces.now in
     let answers = c.args.judged.now in
     let ending = line (count_line (length traces)) in
-    let start = Passes-held (g.O.Sink.taken c.args.sink.now) c.args.held.now.items (c.args.held.now.items ++ (lines_text (judged_lines names traces answers) ++ ending))
+    let start = Passes-held (g.O.Sink.takes c.args.sink.now).bytes c.args.held.now.items (c.args.held.now.items ++ (lines_text (judged_lines names traces answers) ++ ending))
     (judged_text names traces answers) (ap (λ l. c.args.held.now.items ++ l) (two_parts names traces answers)) in
     IfErr-from c.from_residual.result c.from_residual.ensures.1 (λ stop is.
     StopsWithin-next ending start refl c.in_err-pass_traces.ensures.stopped is)
@@ -32,11 +32,11 @@ returns-in_err-put_count-clause-stopped g c =
     let traces = c.args.traces.now in
     let answers = c.args.judged.now in
     let ending = line (count_line (length traces)) in
-    let start = Passes-held (g.O.Sink.taken c.args.sink.now) c.args.held.now.items (c.args.held.now.items ++ (lines_text (judged_lines names traces answers) ++ ending))
+    let start = Passes-held (g.O.Sink.takes c.args.sink.now).bytes c.args.held.now.items (c.args.held.now.items ++ (lines_text (judged_lines names traces answers) ++ ending))
     (judged_text names traces answers) (ap (λ l. c.args.held.now.items ++ l) (two_parts names traces answers)) in
-    let told = Passes-next ending start c.in_ok-pass_traces.ensures.passed in
+    let told = Passes-next ending start c.in_ok-pass_traces.ensures.passed.0 in
     IfErr-from c.from_residual-in_err-put_count.result c.from_residual-in_err-put_count.ensures.1 (λ stop is.
-    no_memory_after c.pass_traces.new.held.items ending _ _ stop (line_some (count_line (length traces))) is c.in_ok-pass_traces.ensures.no_fault told)
+    no_memory_after c.pass_traces.new.held.items ending stop (line_some (count_line (length traces))) is c.in_ok-pass_traces.ensures.passed.1 told)
 
 pub returns-clause-passed : goal.returns-clause-passed
 returns-clause-passed g c =
@@ -44,7 +44,7 @@ returns-clause-passed g c =
     let traces = c.args.traces.now in
     let answers = c.args.judged.now in
     let ending = line (count_line (length traces)) in
-    let start = Passes-held (g.O.Sink.taken c.args.sink.now) c.args.held.now.items (c.args.held.now.items ++ (lines_text (judged_lines names traces answers) ++ ending))
+    let start = Passes-held (g.O.Sink.takes c.args.sink.now).bytes c.args.held.now.items (c.args.held.now.items ++ (lines_text (judged_lines names traces answers) ++ ending))
     (judged_text names traces answers) (ap (λ l. c.args.held.now.items ++ l) (two_parts names traces answers)) in
-    let told = Passes-next ending start c.in_ok-pass_traces.ensures.passed in
-    Passes-left c.in_ok-put_count.ensures told
+    let told = Passes-next ending start c.in_ok-pass_traces.ensures.passed.0 in
+    (Passes-left c.in_ok-put_count.ensures told, c.in_ok-pass_traces.ensures.passed.1)

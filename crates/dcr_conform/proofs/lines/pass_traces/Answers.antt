@@ -22,8 +22,8 @@ loop-i-preserved g c =
     (drop_at_read answers i c.index-judged-i.result (omega arith) c.index-judged-i.is) in
     record {
       passed = Passes-next (lines_text (judged_lines names (drop (i + 1) traces) (drop (i + 1) answers)))
-          (Passes-line c.loop-i.held.items lines c.loop-i.invariant.passed) c.in_ok-pass_trace.ensures.passed;
-      no_fault = c.in_ok-pass_trace.ensures.no_fault ∙ c.loop-i.invariant.no_fault;
+          (Passes-line c.loop-i.held.items lines c.loop-i.invariant.passed) c.in_ok-pass_trace.ensures.passed.0;
+      no_fault = c.in_ok-pass_trace.ensures.passed.1 ∙ c.loop-i.invariant.no_fault;
     }
 
 pub returns-in_err-pass_trace-clause-stopped : goal.returns-in_err-pass_trace-clause-stopped

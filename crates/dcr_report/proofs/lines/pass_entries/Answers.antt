@@ -20,8 +20,8 @@ loop-place-preserved g c =
     let lines = first_line sites atoms place _ _ entry (drop_at_get entries place entry c.read.ensures) in
     record {
       passed = Passes-next (lines_text (entry_lines sites atoms (place + 1) (drop (place + 1) entries)))
-          (Passes-line c.loop-place.held.items lines c.loop-place.invariant.passed) c.in_ok-pass_entry.ensures.passed;
-      no_fault = c.in_ok-pass_entry.ensures.no_fault ∙ c.loop-place.invariant.no_fault;
+          (Passes-line c.loop-place.held.items lines c.loop-place.invariant.passed) c.in_ok-pass_entry.ensures.passed.0;
+      no_fault = c.in_ok-pass_entry.ensures.passed.1 ∙ c.loop-place.invariant.no_fault;
     }
 
 pub returns-in_err-pass_entry-clause-stopped : goal.returns-in_err-pass_entry-clause-stopped

@@ -23,8 +23,8 @@ loop-i-preserved g c =
     (drop_at_get marks i mark (sym c.get.ensures ∙ ap option_copied c.unwrap-mark.ensures)) in
     record {
       passed = Passes-next (lines_text (site_lines atoms (drop (i + 1) sites) (drop (i + 1) marks)))
-          (Passes-line c.loop-i.held.items lines c.loop-i.invariant.passed) c.in_ok-pass_site.ensures.passed;
-      no_fault = c.in_ok-pass_site.ensures.no_fault ∙ c.loop-i.invariant.no_fault;
+          (Passes-line c.loop-i.held.items lines c.loop-i.invariant.passed) c.in_ok-pass_site.ensures.passed.0;
+      no_fault = c.in_ok-pass_site.ensures.passed.1 ∙ c.loop-i.invariant.no_fault;
     }
 
 pub returns-in_err-pass_site-clause-stopped : goal.returns-in_err-pass_site-clause-stopped

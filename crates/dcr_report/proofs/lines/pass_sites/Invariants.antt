@@ -6,8 +6,8 @@ use Rattle.dcr_report.proofs.lines.pass_sites.Given as goal
 
 abbrev pub invariant-loop-i : goal.invariant-loop-i
 invariant-loop-i g l = record {
-  passed : Passes (g.O.Sink.taken l.initial.sink) (g.O.Sink.taken l.sink) l.initial.held.items
+  passed : Passes (g.O.Sink.takes l.initial.sink).bytes (g.O.Sink.takes l.sink).bytes l.initial.held.items
       (l.held.items ++ lines_text (site_lines l.graph.names (drop l.i l.sites) (drop l.i l.marks)))
       (lines_text (site_lines l.graph.names l.sites l.marks));
-  no_fault : g.O.Sink.write_faults l.sink ≡ g.O.Sink.write_faults l.initial.sink;
+  no_fault : (g.O.Sink.takes l.sink).faults ≡ (g.O.Sink.takes l.initial.sink).faults;
 }

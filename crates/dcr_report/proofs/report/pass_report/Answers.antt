@@ -24,7 +24,7 @@ returns-in_err-pass_head-clause-stopped g c =
     let sites = c.site_names-sites.result.now in
     let last = lines_text (site_lines atoms sites closed.marks) ++ ending in
     let rest = lines_text (entry_lines cover.names atoms 0 entries) ++ last in
-    let start = Passes-held (g.O.Sink.taken c.args.sink.now) c.args.held.now.items (c.args.held.now.items ++ (lines_text (head_lines nest cover atoms closed.opening) ++ rest))
+    let start = Passes-held (g.O.Sink.takes c.args.sink.now).bytes c.args.held.now.items (c.args.held.now.items ++ (lines_text (head_lines nest cover atoms closed.opening) ++ rest))
     (told_text nest cover atoms closed) (ap (λ l. c.args.held.now.items ++ l) (sym (told_parts nest cover atoms sites closed c.site_names-sites.ensures.names))) in
     IfErr-from c.from_residual.result c.from_residual.ensures.1 (λ stop is.
     StopsWithin-next rest start refl c.in_err-pass_head.ensures.stopped is)
@@ -40,11 +40,11 @@ returns-in_err-pass_entries-clause-stopped g c =
     let sites = c.site_names-sites.result.now in
     let last = lines_text (site_lines atoms sites closed.marks) ++ ending in
     let rest = lines_text (entry_lines cover.names atoms 0 entries) ++ last in
-    let start = Passes-held (g.O.Sink.taken c.args.sink.now) c.args.held.now.items (c.args.held.now.items ++ (lines_text (head_lines nest cover atoms closed.opening) ++ rest))
+    let start = Passes-held (g.O.Sink.takes c.args.sink.now).bytes c.args.held.now.items (c.args.held.now.items ++ (lines_text (head_lines nest cover atoms closed.opening) ++ rest))
     (told_text nest cover atoms closed) (ap (λ l. c.args.held.now.items ++ l) (sym (told_parts nest cover atoms sites closed c.site_names-sites.ensures.names))) in
-    let head = Passes-next rest start c.in_ok-pass_head.ensures.passed in
+    let head = Passes-next rest start c.in_ok-pass_head.ensures.passed.0 in
     IfErr-from c.from_residual-in_err-pass_entries.result c.from_residual-in_err-pass_entries.ensures.1 (λ stop is.
-    StopsWithin-next last head c.in_ok-pass_head.ensures.no_fault c.in_err-pass_entries.ensures.stopped is)
+    StopsWithin-next last head c.in_ok-pass_head.ensures.passed.1 c.in_err-pass_entries.ensures.stopped is)
 
 pub returns-in_err-pass_sites-clause-stopped : goal.returns-in_err-pass_sites-clause-stopped
 returns-in_err-pass_sites-clause-stopped g c =
@@ -57,12 +57,12 @@ returns-in_err-pass_sites-clause-stopped g c =
     let sites = c.site_names-sites.result.now in
     let last = lines_text (site_lines atoms sites closed.marks) ++ ending in
     let rest = lines_text (entry_lines cover.names atoms 0 entries) ++ last in
-    let start = Passes-held (g.O.Sink.taken c.args.sink.now) c.args.held.now.items (c.args.held.now.items ++ (lines_text (head_lines nest cover atoms closed.opening) ++ rest))
+    let start = Passes-held (g.O.Sink.takes c.args.sink.now).bytes c.args.held.now.items (c.args.held.now.items ++ (lines_text (head_lines nest cover atoms closed.opening) ++ rest))
     (told_text nest cover atoms closed) (ap (λ l. c.args.held.now.items ++ l) (sym (told_parts nest cover atoms sites closed c.site_names-sites.ensures.names))) in
-    let head = Passes-next rest start c.in_ok-pass_head.ensures.passed in
-    let middle = Passes-next last head c.in_ok-pass_entries.ensures.passed in
+    let head = Passes-next rest start c.in_ok-pass_head.ensures.passed.0 in
+    let middle = Passes-next last head c.in_ok-pass_entries.ensures.passed.0 in
     IfErr-from c.from_residual-in_err-pass_sites.result c.from_residual-in_err-pass_sites.ensures.1 (λ stop is.
-    StopsWithin-next ending middle (c.in_ok-pass_entries.ensures.no_fault ∙ c.in_ok-pass_head.ensures.no_fault) c.in_err-pass_sites.ensures.stopped is)
+    StopsWithin-next ending middle (c.in_ok-pass_entries.ensures.passed.1 ∙ c.in_ok-pass_head.ensures.passed.1) c.in_err-pass_sites.ensures.stopped is)
 
 pub returns-in_err-put_end-clause-stopped : goal.returns-in_err-put_end-clause-stopped
 returns-in_err-put_end-clause-stopped g c =
@@ -75,14 +75,14 @@ returns-in_err-put_end-clause-stopped g c =
     let sites = c.site_names-sites.result.now in
     let last = lines_text (site_lines atoms sites closed.marks) ++ ending in
     let rest = lines_text (entry_lines cover.names atoms 0 entries) ++ last in
-    let start = Passes-held (g.O.Sink.taken c.args.sink.now) c.args.held.now.items (c.args.held.now.items ++ (lines_text (head_lines nest cover atoms closed.opening) ++ rest))
+    let start = Passes-held (g.O.Sink.takes c.args.sink.now).bytes c.args.held.now.items (c.args.held.now.items ++ (lines_text (head_lines nest cover atoms closed.opening) ++ rest))
     (told_text nest cover atoms closed) (ap (λ l. c.args.held.now.items ++ l) (sym (told_parts nest cover atoms sites closed c.site_names-sites.ensures.names))) in
-    let head = Passes-next rest start c.in_ok-pass_head.ensures.passed in
-    let middle = Passes-next last head c.in_ok-pass_entries.ensures.passed in
-    let marked = Passes-next ending middle c.in_ok-pass_sites.ensures.passed in
+    let head = Passes-next rest start c.in_ok-pass_head.ensures.passed.0 in
+    let middle = Passes-next last head c.in_ok-pass_entries.ensures.passed.0 in
+    let marked = Passes-next ending middle c.in_ok-pass_sites.ensures.passed.0 in
     IfErr-from c.from_residual-in_err-put_end.result c.from_residual-in_err-put_end.ensures.1 (λ stop is.
-    no_memory_after c.pass_sites.new.held.items ending _ _ stop (lines_some (end_lines atoms closed.waits (length entries)) (omega arith)) is
-    (c.in_ok-pass_sites.ensures.no_fault ∙ (c.in_ok-pass_entries.ensures.no_fault ∙ c.in_ok-pass_head.ensures.no_fault)) marked)
+    no_memory_after c.pass_sites.new.held.items ending stop (lines_some (end_lines atoms closed.waits (length entries)) (omega arith)) is
+    (c.in_ok-pass_sites.ensures.passed.1 ∙ (c.in_ok-pass_entries.ensures.passed.1 ∙ c.in_ok-pass_head.ensures.passed.1)) marked)
 
 pub returns-clause-passed : goal.returns-clause-passed
 returns-clause-passed g c =
@@ -95,9 +95,11 @@ returns-clause-passed g c =
     let sites = c.site_names-sites.result.now in
     let last = lines_text (site_lines atoms sites closed.marks) ++ ending in
     let rest = lines_text (entry_lines cover.names atoms 0 entries) ++ last in
-    let start = Passes-held (g.O.Sink.taken c.args.sink.now) c.args.held.now.items (c.args.held.now.items ++ (lines_text (head_lines nest cover atoms closed.opening) ++ rest))
+    let start = Passes-held (g.O.Sink.takes c.args.sink.now).bytes c.args.held.now.items (c.args.held.now.items ++ (lines_text (head_lines nest cover atoms closed.opening) ++ rest))
     (told_text nest cover atoms closed) (ap (λ l. c.args.held.now.items ++ l) (sym (told_parts nest cover atoms sites closed c.site_names-sites.ensures.names))) in
-    let head = Passes-next rest start c.in_ok-pass_head.ensures.passed in
-    let middle = Passes-next last head c.in_ok-pass_entries.ensures.passed in
-    let marked = Passes-next ending middle c.in_ok-pass_sites.ensures.passed in
-    Passes-left (c.in_ok-put_end.ensures ∙ ap (λ n. c.pass_sites.new.held.items ++ lines_text (end_lines atoms closed.waits n)) c.len.ensures.len) marked
+    let head = Passes-next rest start c.in_ok-pass_head.ensures.passed.0 in
+    let middle = Passes-next last head c.in_ok-pass_entries.ensures.passed.0 in
+    let marked = Passes-next ending middle c.in_ok-pass_sites.ensures.passed.0 in (
+      Passes-left (c.in_ok-put_end.ensures ∙ ap (λ n. c.pass_sites.new.held.items ++ lines_text (end_lines atoms closed.waits n)) c.len.ensures.len) marked,
+      c.in_ok-pass_sites.ensures.passed.1 ∙ (c.in_ok-pass_entries.ensures.passed.1 ∙ c.in_ok-pass_head.ensures.passed.1),
+    )

@@ -1,5 +1,5 @@
-use Rattle.std.proofs.Common.{ℕ, ◌<◌, List, length, take, subst}
-use Rattle.std.specs.Io.KnownBytes.{Appends}
+use Rattle.std.proofs.Common.{subst}
+use Rattle.dcr_base.specs.Side.{Adds, Stopped}
 use Rattle.std.proofs.lemmas.Result.{on_ok_weaker, on_err_weaker}
 use Rattle.dcr_report.proofs.ReportLemmas.{legal_fits, told_is_report}
 use Rattle.dcr_report.proofs.report.write_report.Goals as goal
@@ -10,11 +10,9 @@ write_told-requires-clause-fits g c = legal_fits c.args.graph.now c.args.cover.n
 pub returns-clause-all : goal.returns-clause-all
 returns-clause-all g c =
     let same = told_is_report c.args.nested.now c.args.graph.now c.args.cover.now c.args.closed.now c.requires.flattening c.requires.marks c.requires.verdict in
-    let All : List ℕ → Type 0 = λ text. Appends (g.O.Sink.taken c.args.sink.now) (g.O.Sink.taken c.write_told.new.sink) text in
-    on_ok_weaker c.write_told.result (subst All same) c.write_told.ensures.all
+    on_ok_weaker c.write_told.result (subst (λ text. Adds text (g.O.Sink.takes c.args.sink.now) (g.O.Sink.takes c.write_told.new.sink)) same) c.write_told.ensures.all
 
 pub returns-clause-not_all : goal.returns-clause-not_all
 returns-clause-not_all g c =
     let same = told_is_report c.args.nested.now c.args.graph.now c.args.cover.now c.args.closed.now c.requires.flattening c.requires.marks c.requires.verdict in
-    let Part : List ℕ → Type 0 = λ text. (n : ℕ) × (n < length text) × Appends (g.O.Sink.taken c.args.sink.now) (g.O.Sink.taken c.write_told.new.sink) (take n text) in
-    on_err_weaker c.write_told.result (subst Part same) c.write_told.ensures.not_all
+    on_err_weaker c.write_told.result (subst (λ text. Stopped text (g.O.Sink.takes c.args.sink.now) (g.O.Sink.takes c.write_told.new.sink)) same) c.write_told.ensures.not_all

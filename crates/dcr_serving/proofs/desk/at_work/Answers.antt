@@ -1,6 +1,5 @@
 use Rattle.std.proofs.Common.{◌≡◌, ◌<◌, length, ap, subst, sym, ◌∙◌}
 use Rattle.std.specs.List.{All}
-use Rattle.dcr_link.specs.Replies.{terms_of}
 use Rattle.dcr_serving.specs.Hands.{HasServed}
 use Rattle.dcr_serving.proofs.DeskLemmas.{whole_again}
 use Rattle.dcr_serving.proofs.desk.at_work.Goals as goal
@@ -13,14 +12,7 @@ returns-clause-as_many g c =
 pub returns-clause-served : goal.returns-clause-served
 returns-clause-served g c =
     let as_many : length c.each_at_work.new.hands ≡ length c.args.hands.now.items = c.each_at_work.ensures.as_many ∙ ap (λ l. length l) c.as_mut_slice.ensures.value in
-    subst (All (HasServed (record {
-      left = g.B.Link.Source.left;
-      taken = g.B.Link.Sink.taken;
-      unread = g.B.Link.Rest.Spent.unread;
-      sent = g.B.Link.Rest.Spent.sent;
-      failed_reads = g.B.Link.Rest.Spent.failed_reads;
-      failed_writes = g.B.Link.Rest.Spent.failed_writes;
-    })
-    g.N.StoreName.first g.N.TurnName.capacity (terms_of c.args.cover.now.names c.args.graph.now.names c.args.policy.now) g.M.DeskName.links g.M.DeskName.items))
+    subst (All (HasServed g.B.Door.tells.each
+    g.N.StoreName.first g.N.TurnName.capacity c.args.scene.now g.M.DeskName.links g.M.DeskName.items))
     (sym (whole_again c.args.hands.now.len c.each_at_work.new.hands c.args.hands.now.items c.args.hands.now.ok.0 as_many))
     (λ k d within. c.each_at_work.ensures.served k d (subst (λ n. k < n) c.each_at_work.ensures.as_many within))

@@ -2,7 +2,6 @@ use Rattle.std.proofs.Common.{◌≡◌, ◌<◌, ◌≤◌, ℕ, Some, length, 
 use Rattle.std.specs.Prelude.{None, slice_get}
 use Rattle.std.specs.List.{All}
 use Rattle.dcr_turn.specs.PassValue.{PassValue}
-use Rattle.dcr_link.specs.Replies.{terms_of}
 use Rattle.dcr_serve.specs.Left.{AreAllButFirst, numbers_from}
 use Rattle.dcr_serving.specs.Placing.{AreInPlace, filled}
 use Rattle.dcr_serving.specs.Serving.{IsServedOf}
@@ -39,24 +38,10 @@ returns-clause-in_place g c = subst (λ slots. AreInPlace slots) (sym c.part-lef
 
 pub returns-clause-served : goal.returns-clause-served
 returns-clause-served g c =
-    subst (λ slots. All (λ one. IsServedOf (record {
-      left = g.B.Link.Source.left;
-      taken = g.B.Link.Sink.taken;
-      unread = g.B.Link.Rest.Spent.unread;
-      sent = g.B.Link.Rest.Spent.sent;
-      failed_reads = g.B.Link.Rest.Spent.failed_reads;
-      failed_writes = g.B.Link.Rest.Spent.failed_writes;
-    })
-    g.N.StoreName.first g.N.TurnName.capacity (terms_of c.args.cover.now.names c.args.graph.now.names c.args.policy.now) g.M.DeskName.links one.pass one.end) (filled slots)) (sym c.part-left.ensures.slots)
-    (from_hands (λ one. IsServedOf (record {
-      left = g.B.Link.Source.left;
-      taken = g.B.Link.Sink.taken;
-      unread = g.B.Link.Rest.Spent.unread;
-      sent = g.B.Link.Rest.Spent.sent;
-      failed_reads = g.B.Link.Rest.Spent.failed_reads;
-      failed_writes = g.B.Link.Rest.Spent.failed_writes;
-    })
-    g.N.StoreName.first g.N.TurnName.capacity (terms_of c.args.cover.now.names c.args.graph.now.names c.args.policy.now) g.M.DeskName.links one.pass one.end) c.args.slots.now c.gather.new.slots c.at_work.new.hands.items c.requires.empty c.gather.ensures.from_hands
+    subst (λ slots. All (λ one. IsServedOf g.B.Door.tells.each
+    g.N.StoreName.first g.N.TurnName.capacity c.args.scene.now g.M.DeskName.links one.pass one.end) (filled slots)) (sym c.part-left.ensures.slots)
+    (from_hands (λ one. IsServedOf g.B.Door.tells.each
+    g.N.StoreName.first g.N.TurnName.capacity c.args.scene.now g.M.DeskName.links one.pass one.end) c.args.slots.now c.gather.new.slots c.at_work.new.hands.items c.requires.empty c.gather.ensures.from_hands
     (λ k d within. (c.at_work.ensures.served k d within).each))
 
 pub returns-clause-left : goal.returns-clause-left
@@ -78,9 +63,6 @@ pub returns-clause-stands : goal.returns-clause-stands
 returns-clause-stands g c =
     let taken = taken_are c.gather.new.slots c.args.slots.now c.part-left.new.slots c.gather.new.share.taken c.deal-hands.new.share.taken c.gather.ensures.count c.requires.empty (c.deal-hands.ensures.taken ∙ c.new-desk.ensures.none_taken) c.part-left.ensures.slots in
     record {
-      left = subst (λ (n : ℕ). AreAllButFirst g.M.DeskName.links n (g.B.Door.links c.finish-door.result.0)) taken c.finish-door.ensures.links;
-      never_falls = c.finish-door.ensures.never_falls;
-      unfailed = c.finish-door.ensures.unfailed;
-      shut = c.finish-door.ensures.shut;
-      failed = c.finish-door.ensures.failed;
+      left = subst (λ (n : ℕ). AreAllButFirst g.M.DeskName.links n (g.B.Door.tells.links c.finish-door.result.0)) taken c.finish-door.ensures.links;
+      stands = c.finish-door.ensures.stands;
     }

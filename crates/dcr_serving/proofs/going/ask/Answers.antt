@@ -6,7 +6,7 @@ use Rattle.dcr_serving.proofs.going.ask.Goals as goal
 
 pub returns-in-Ok-Some-clause-some : goal.returns-in-Ok-Some-clause-some
 returns-in-Ok-Some-clause-some g c = λ links faults given stood.
-    let step = stands_given g.B.Door.links g.B.Door.is_shut g.B.Door.faults links faults given c.args.door.now c.next.new.self c.in-Ok-Some.link
-    (subst (λ (stand : DoorStand). Stands g.B.Door.links g.B.Door.is_shut g.B.Door.faults links faults given stand c.args.door.now) c.in-Open.is stood)
-    (rw c.in-Ok-Some.field-0-is at c.in-Ok-Some.ensures.given) c.in-Ok-Some.ensures.ok_counts_none in
-    (subst (λ (stand : DoorStand). Stands g.B.Door.links g.B.Door.is_shut g.B.Door.faults links faults (given + 1) stand c.next.new.self) (sym c.in-Open.is) step.0, step.1)
+    let step = stands_given g.B.Door.tells links faults given c.args.door.now c.next.new.self c.in-Ok-Some.link
+    (subst (λ (stand : DoorStand). Stands g.B.Door.tells links faults given stand c.args.door.now) c.in-Open.is stood)
+    (rw c.in-Ok-Some.field-0-is at c.in-Ok-Some.ensures.given) c.in-Ok-Some.ensures.counts in
+    (subst (λ (stand : DoorStand). Stands g.B.Door.tells links faults (given + 1) stand c.next.new.self) (sym c.in-Open.is) step.0, step.1)

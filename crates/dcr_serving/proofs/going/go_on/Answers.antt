@@ -3,7 +3,6 @@ use Rattle.std.proofs.Common.{◌≡◌, ◌+◌, ◌≤◌, ◌<◌, ℕ, List,
 use Rattle.std.specs.Prelude.{vec_capacity}
 use Rattle.std.proofs.lemmas.List.{length-append}
 use Rattle.dcr_turn.specs.PassValue.{PassValue}
-use Rattle.dcr_link.specs.Replies.{terms_of}
 use Rattle.dcr_serve.specs.Left.{numbers_from}
 use Rattle.dcr_serving.specs.Serving.{AreServed, new_pass}
 use Rattle.dcr_serving.proofs.ServingLemmas.{next_seat, way_idle, way_served}
@@ -68,15 +67,8 @@ loop-seat-preserved-in-Some-ask g c =
       ends_room = c.push_reserved-in-Some-ask.ensures.capacity ∙ c.loop-seat.invariant.ends_room;
       goes = λ links faults way.
           let now = c.loop-seat.invariant.goes links faults way in
-          way_served (record {
-            left = g.B.Link.Source.left;
-            taken = g.B.Link.Sink.taken;
-            unread = g.B.Link.Rest.Spent.unread;
-            sent = g.B.Link.Rest.Spent.sent;
-            failed_reads = g.B.Link.Rest.Spent.failed_reads;
-            failed_writes = g.B.Link.Rest.Spent.failed_writes;
-          })
-          g.N.StoreName.first g.N.TurnName.capacity (terms_of c.args.cover.now.names c.args.graph.now.names c.args.policy.now) g.B.Door.links g.B.Door.is_shut g.B.Door.faults links faults
+          way_served g.B.Door.tells.each
+          g.N.StoreName.first g.N.TurnName.capacity c.args.scene.now g.B.Door.tells links faults
           c.loop-seat.passes.items c.push_reserved.new.self.items c.loop-seat.ends.items c.push_reserved-in-Some-ask.new.self.items c.loop-seat.now c.ask.new.stand c.loop-seat.door c.ask.new.door c.in-Some-ask.link
           c.serve_link-pass.result.pass c.serve_link-pass.result.end now c.in-Some-ask.ensures.open.0
           (c.in-Some-ask.ensures.some links faults (length c.loop-seat.ends.items) now.stands)
@@ -105,15 +97,8 @@ loop-seat-preserved g c =
       ends_room = c.loop-seat.invariant.ends_room;
       goes = λ links faults way.
           let now = c.loop-seat.invariant.goes links faults way in
-          way_idle (record {
-            left = g.B.Link.Source.left;
-            taken = g.B.Link.Sink.taken;
-            unread = g.B.Link.Rest.Spent.unread;
-            sent = g.B.Link.Rest.Spent.sent;
-            failed_reads = g.B.Link.Rest.Spent.failed_reads;
-            failed_writes = g.B.Link.Rest.Spent.failed_writes;
-          })
-          g.N.StoreName.first g.N.TurnName.capacity (terms_of c.args.cover.now.names c.args.graph.now.names c.args.policy.now) g.B.Door.links g.B.Door.is_shut g.B.Door.faults links faults
+          way_idle g.B.Door.tells.each
+          g.N.StoreName.first g.N.TurnName.capacity c.args.scene.now g.B.Door.tells links faults
           c.loop-seat.passes.items c.push_reserved-in-None.new.self.items c.loop-seat.ends.items c.loop-seat.now c.ask.new.stand c.loop-seat.door c.ask.new.door c.into_pass.result now
           (c.in-None.ensures.none links faults (length c.loop-seat.ends.items) now.stands) c.in-None.ensures.not_open (c.into_pass.ensures.new ∙ ap new_pass next.0) c.push_reserved-in-None.ensures.items;
     }
@@ -127,15 +112,8 @@ returns g c =
     record {
       goes_on = λ links faults served stands still_open.
           let way = c.loop-seat.invariant.goes links faults (record { served = served; stands = stands; still_open = still_open }) in (
-            subst (λ (n : ℕ). AreServed (record {
-              left = g.B.Link.Source.left;
-              taken = g.B.Link.Sink.taken;
-              unread = g.B.Link.Rest.Spent.unread;
-              sent = g.B.Link.Rest.Spent.sent;
-              failed_reads = g.B.Link.Rest.Spent.failed_reads;
-              failed_writes = g.B.Link.Rest.Spent.failed_writes;
-            })
-                g.N.StoreName.first g.N.TurnName.capacity (terms_of c.args.cover.now.names c.args.graph.now.names c.args.policy.now) links n c.loop-seat.passes.items c.loop-seat.ends.items) total way.served,
+            subst (λ (n : ℕ). AreServed g.B.Door.tells.each
+                g.N.StoreName.first g.N.TurnName.capacity c.args.scene.now links n c.loop-seat.passes.items c.loop-seat.ends.items) total way.served,
             way.stands,
             λ is. way.still_open is ∙ total,
           );

@@ -2,7 +2,6 @@ use Rattle.std.proofs.Common.{◌≡◌, ◌≢◌, ◌+◌, ℕ, List, length, 
 use Rattle.std.specs.Prelude.{Option}
 use Rattle.std.specs.List.{All, Any}
 use Rattle.dcr_turn.specs.PassValue.{PassValue, new_passes}
-use Rattle.dcr_link.specs.Replies.{terms_of}
 use Rattle.dcr_serve.specs.Left.{numbers_from}
 use Rattle.dcr_link.specs.declared.end.WorkCause.TheVariants.{NoMemory}
 use Rattle.dcr_serving.specs.Placing.{HasRoom, filled}
@@ -13,20 +12,13 @@ use Rattle.dcr_serving.proofs.serve.at_desk.Goals as goal
 
 pub returns-in_default-clause-served : goal.returns-in_default-clause-served
 returns-in_default-clause-served g c =
-    served_none (record {
-      left = g.B.Link.Source.left;
-      taken = g.B.Link.Sink.taken;
-      unread = g.B.Link.Rest.Spent.unread;
-      sent = g.B.Link.Rest.Spent.sent;
-      failed_reads = g.B.Link.Rest.Spent.failed_reads;
-      failed_writes = g.B.Link.Rest.Spent.failed_writes;
-    })
-    g.N.StoreName.first g.N.TurnName.capacity (terms_of c.args.cover.now.names c.args.graph.now.names c.args.policy.now) (g.B.Door.links c.args.door) g.N.TurnName.turn.sessions c.args.passes.items c.new-in_default.result.items
+    served_none g.B.Door.tells.each
+    g.N.StoreName.first g.N.TurnName.capacity c.args.scene.now (g.B.Door.tells.links c.args.door) g.N.TurnName.turn.sessions c.args.passes.items c.new-in_default.result.items
     c.requires.passes c.new-in_default.ensures.items
 
 pub returns-in_default-clause-door : goal.returns-in_default-clause-door
 returns-in_default-clause-door g c =
-    door_unasked g.B.Door.links g.B.Door.is_shut g.B.Door.faults c.args.door g.N.TurnName.turn.sessions c.new-in_default.result.items c.new-in_default.ensures.items
+    door_unasked g.B.Door.tells c.args.door g.N.TurnName.turn.sessions c.new-in_default.result.items c.new-in_default.ensures.items
 
 pub seated-seats-requires-clause-new : goal.seated-seats-requires-clause-new
 seated-seats-requires-clause-new g c =
@@ -108,36 +100,15 @@ returns-clause-served g c =
     at.as_many at.within at.left at.free at.in_place in
     let taken = are_taken c.work_at-door.new.slots c.work_at-door.result.1.items c.len-sessions.result c.len.result n c.in-Ok.room.passes.items c.take_out.new.passes.items c.in-Ok.room.ends.items c.take_out.new.ends.items first
     c.in-Ok.ensures.passes.0 c.in-Ok.ensures.ends.0 c.take_out.ensures.passes c.take_out.ensures.ends in
-    let way = way_after c.work_at-door.new.slots (record {
-      left = g.B.Link.Source.left;
-      taken = g.B.Link.Sink.taken;
-      unread = g.B.Link.Rest.Spent.unread;
-      sent = g.B.Link.Rest.Spent.sent;
-      failed_reads = g.B.Link.Rest.Spent.failed_reads;
-      failed_writes = g.B.Link.Rest.Spent.failed_writes;
-    })
-    g.N.StoreName.first g.N.TurnName.capacity (terms_of c.args.cover.now.names c.args.graph.now.names c.args.policy.now) g.B.Door.links g.B.Door.is_shut g.B.Door.faults g.M.DeskName.links g.M.DeskName.faults
+    let way = way_after c.work_at-door.new.slots g.B.Door.tells.each
+    g.N.StoreName.first g.N.TurnName.capacity c.args.scene.now g.B.Door.tells g.M.DeskName.links g.M.DeskName.faults
     c.work_at-door.result.1.items c.len-sessions.result c.len.result n c.take_out.new.passes.items c.take_out.new.ends.items c.work_at-door.result.2 c.work_at-door.result.0 first taken at.served at.stands in
     let after = c.go_on-stand.ensures.goes_on g.M.DeskName.links g.M.DeskName.faults way.served way.stands way.still_open in
     let total : length c.take_out.new.passes.items + length c.work_at-door.result.1.items ≡ n = ap (λ (k : ℕ). k + length c.work_at-door.result.1.items) taken.passes_many ∙ first.total in
-    subst (λ (links : Option (List g.row.B-Link.Denot)). AreServed (record {
-      left = g.B.Link.Source.left;
-      taken = g.B.Link.Sink.taken;
-      unread = g.B.Link.Rest.Spent.unread;
-      sent = g.B.Link.Rest.Spent.sent;
-      failed_reads = g.B.Link.Rest.Spent.failed_reads;
-      failed_writes = g.B.Link.Rest.Spent.failed_writes;
-    })
-    g.N.StoreName.first g.N.TurnName.capacity (terms_of c.args.cover.now.names c.args.graph.now.names c.args.policy.now) links n c.go_on-stand.new.passes.items c.go_on-stand.new.ends.items) (sym c.requires.links)
-    (subst (λ (k : ℕ). AreServed (record {
-      left = g.B.Link.Source.left;
-      taken = g.B.Link.Sink.taken;
-      unread = g.B.Link.Rest.Spent.unread;
-      sent = g.B.Link.Rest.Spent.sent;
-      failed_reads = g.B.Link.Rest.Spent.failed_reads;
-      failed_writes = g.B.Link.Rest.Spent.failed_writes;
-    })
-    g.N.StoreName.first g.N.TurnName.capacity (terms_of c.args.cover.now.names c.args.graph.now.names c.args.policy.now) g.M.DeskName.links k c.go_on-stand.new.passes.items c.go_on-stand.new.ends.items) total after.0)
+    subst (λ (links : Option (List g.row.B-Link.Denot)). AreServed g.B.Door.tells.each
+    g.N.StoreName.first g.N.TurnName.capacity c.args.scene.now links n c.go_on-stand.new.passes.items c.go_on-stand.new.ends.items) (sym c.requires.links)
+    (subst (λ (k : ℕ). AreServed g.B.Door.tells.each
+    g.N.StoreName.first g.N.TurnName.capacity c.args.scene.now g.M.DeskName.links k c.go_on-stand.new.passes.items c.go_on-stand.new.ends.items) total after.0)
 
 pub returns-clause-door : goal.returns-clause-door
 returns-clause-door g c =
@@ -148,19 +119,12 @@ returns-clause-door g c =
     at.as_many at.within at.left at.free at.in_place in
     let taken = are_taken c.work_at-door.new.slots c.work_at-door.result.1.items c.len-sessions.result c.len.result n c.in-Ok.room.passes.items c.take_out.new.passes.items c.in-Ok.room.ends.items c.take_out.new.ends.items first
     c.in-Ok.ensures.passes.0 c.in-Ok.ensures.ends.0 c.take_out.ensures.passes c.take_out.ensures.ends in
-    let way = way_after c.work_at-door.new.slots (record {
-      left = g.B.Link.Source.left;
-      taken = g.B.Link.Sink.taken;
-      unread = g.B.Link.Rest.Spent.unread;
-      sent = g.B.Link.Rest.Spent.sent;
-      failed_reads = g.B.Link.Rest.Spent.failed_reads;
-      failed_writes = g.B.Link.Rest.Spent.failed_writes;
-    })
-    g.N.StoreName.first g.N.TurnName.capacity (terms_of c.args.cover.now.names c.args.graph.now.names c.args.policy.now) g.B.Door.links g.B.Door.is_shut g.B.Door.faults g.M.DeskName.links g.M.DeskName.faults
+    let way = way_after c.work_at-door.new.slots g.B.Door.tells.each
+    g.N.StoreName.first g.N.TurnName.capacity c.args.scene.now g.B.Door.tells g.M.DeskName.links g.M.DeskName.faults
     c.work_at-door.result.1.items c.len-sessions.result c.len.result n c.take_out.new.passes.items c.take_out.new.ends.items c.work_at-door.result.2 c.work_at-door.result.0 first taken at.served at.stands in
     let after = c.go_on-stand.ensures.goes_on g.M.DeskName.links g.M.DeskName.faults way.served way.stands way.still_open in
     let total : length c.take_out.new.passes.items + length c.work_at-door.result.1.items ≡ n = ap (λ (k : ℕ). k + length c.work_at-door.result.1.items) taken.passes_many ∙ first.total in
-    door_ends g.B.Door.links g.B.Door.is_shut g.B.Door.faults c.args.door c.go_on-stand.new.door g.M.DeskName.links g.M.DeskName.faults n c.go_on-stand.new.ends.items
+    door_ends g.B.Door.tells c.args.door c.go_on-stand.new.door g.M.DeskName.links g.M.DeskName.faults n c.go_on-stand.new.ends.items
     c.go_on-stand.result c.has_failed.result c.any_wanted-no_memory.result c.requires.links c.requires.faults after.1 (λ is. after.2 is ∙ total)
     c.has_failed.ensures.failed c.has_failed.ensures.not_failed
     (λ wanted. subst (Any (λ one. one.end.cause ≡ NoMemory)) c.deref.ensures.value (c.any_wanted-no_memory.ensures.some wanted))

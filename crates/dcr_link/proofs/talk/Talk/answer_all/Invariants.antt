@@ -13,11 +13,11 @@ invariant-loop-used g l = record {
   no_fewer : l.initial.pass.made ≤ l.pass.made;
   going : (before : PassValue) (came written : List ℕ)
       → Going g.N.ClusterName.cluster g.N.StoreName.first g.N.TurnName.capacity l.initial.self.terms before l.initial.pass l.initial.self came written
-      → (more : List ℕ) × Appends (g.L.Sink.taken l.initial.link) (g.L.Sink.taken l.link) more
+      → (more : List ℕ) × Appends (g.L.Sink.takes l.initial.link).bytes (g.L.Sink.takes l.link).bytes more
       × Going g.N.ClusterName.cluster g.N.StoreName.first g.N.TurnName.capacity l.initial.self.terms before l.pass l.self (came ++ take l.used l.piece) (written ++ more);
   spare : bytes_spare l.self + l.used ≤ bytes_spare l.initial.self;
   apart : g.L.Sink.source_side l.link ≡ g.L.Sink.source_side l.initial.link;
-  no_fault : g.L.Sink.write_faults l.link ≡ g.L.Sink.write_faults l.initial.link;
+  no_fault : (g.L.Sink.takes l.link).faults ≡ (g.L.Sink.takes l.initial.link).faults;
 }
 
 abbrev pub decreases-loop-used : goal.decreases-loop-used

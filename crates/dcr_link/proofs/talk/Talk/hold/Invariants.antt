@@ -11,10 +11,10 @@ invariant-loop-n g l = record {
   session : l.pass.session ≡ l.initial.pass.session;
   no_fewer : l.initial.pass.made ≤ l.pass.made;
   held : Held g.N.ClusterName.cluster g.N.StoreName.first g.N.TurnName.capacity l.initial.self.terms l.initial.pass l.pass l.self
-      (g.L.Source.left l.initial.link) (g.L.Source.left l.link) (g.L.Sink.taken l.initial.link) (g.L.Sink.taken l.link);
-  told : IsSome (g.L.Source.left l.initial.link) → IsSome (g.L.Source.left l.link);
-  no_read_fault : g.L.Source.read_faults l.link ≡ g.L.Source.read_faults l.initial.link;
-  no_write_fault : g.L.Sink.write_faults l.link ≡ g.L.Sink.write_faults l.initial.link;
+      (g.L.Source.gives l.initial.link).bytes (g.L.Source.gives l.link).bytes (g.L.Sink.takes l.initial.link).bytes (g.L.Sink.takes l.link).bytes;
+  told : IsSome (g.L.Source.gives l.initial.link).bytes → IsSome (g.L.Source.gives l.link).bytes;
+  no_read_fault : (g.L.Source.gives l.link).faults ≡ (g.L.Source.gives l.initial.link).faults;
+  no_write_fault : (g.L.Sink.takes l.link).faults ≡ (g.L.Sink.takes l.initial.link).faults;
 }
 
 abbrev pub decreases-loop-n : goal.decreases-loop-n

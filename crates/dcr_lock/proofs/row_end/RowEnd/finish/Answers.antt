@@ -3,7 +3,7 @@ use Rattle.std.specs.Mem.Slots.{slots_items, slots_filled, slots_len, slots_coun
 use lib.ListN.{get_elem?}
 use Rattle.atomic_table.specs.Table.{Final, Seen, Me}
 use Rattle.dcr_lock.specs.declared.steps.SeatView.{SeatView}
-use Rattle.dcr_lock.specs.Rule.{Keeps}
+use Rattle.dcr_lock.specs.Rule.{AreKept}
 use Rattle.dcr_lock.specs.RowEndValue.{Emptying}
 use Rattle.dcr_lock.proofs.Ending.{nothing_there, left_more, gone_more}
 use Rattle.dcr_lock.proofs.row_end.RowEnd.finish.Goals as goal
@@ -21,7 +21,7 @@ unreachable-requires g c =
     let whole : inside.emptied ≡ inside.table.shared.table_id.slots = emptied ∙ c.requires ∙ sym places in
     let all : c.loop-place.place < inside.emptied = subst (λ (n : ℕ). c.loop-place.place < n) (count ∙ sym whole) near in
     let inside_too : c.loop-place.place < length (slots_items ended.slots) = subst (λ (n : ℕ). c.loop-place.place < n) long near in
-    let last = subst (λ (me : Me (Option g.row.T.Denot) SeatView). Final (Seen (Keeps g.T.Placed.belongs) inside.seat.id me.0) (slots_items ended.words) (slots_items ended.slots))
+    let last = subst (λ (me : Me (Option g.row.T.Denot) SeatView). Final (Seen (AreKept g.T.Placed.belongs) inside.seat.id me.0) (slots_items ended.words) (slots_items ended.slots))
     c.self.invariant.empty c.close_with-closed.ensures.values.2 in
     c.in_default.not-None (nothing_there g.T.Placed.belongs _ _ inside.seat.id inside.emptied c.loop-place.place c.take-stood.result last all inside_too
     (ap (λ (xs : List (Option g.row.T.Denot)). get_elem? xs c.loop-place.place) (sym c.loop-place.invariant.items) ∙ c.take-stood.ensures.value))

@@ -9,15 +9,12 @@ invariant_of-self-in-Ok-Some g c =
     let total : c.self.inside.book.total + 1 ≡ c.add.new.self.total = sym (c.add.ensures.total ∙ ap (λ n. n + 1) c.audit.ensures.total) in
     let item = first_is_next g.P.Numbered.number _ _ _ _ _ before.items c.in-Some.ensures.items in
     let link = gives_its_number _ _ _ _ _ before.left (rw c.in-Ok-Some.field-0-is at c.in-Ok-Some.ensures.given) in
-    let same = c.in-Ok-Some.ensures.ok_counts_none ∙ before.unfailed (λ is. absurd (let at = c.in-Open.is in cc)) in
+    let same = c.in-Ok-Some.ensures.counts ∙ (rw c.in-Open.is at before.stands) in
     record {
       items = rw (← total) item.2;
       within = (let some = item.1 in omega (arith, total));
       left = rw (← total) link.0;
-      never_falls = omega (arith, same);
-      unfailed = λ _. same;
-      shut = λ is. absurd (let at = c.in-Open.is in cc);
-      failed = λ is. absurd (let at = c.in-Open.is in cc);
+      stands = rw c.in-Open.is same;
     }
 
 pub returns-in-Some-clause-number : goal.returns-in-Some-clause-number

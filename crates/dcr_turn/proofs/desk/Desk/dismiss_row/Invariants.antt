@@ -1,4 +1,0 @@
-use Rattle.dcr_turn.proofs.desk.Desk.dismiss_row.Given as goal
-
-abbrev pub ghosts-part : goal.ghosts-part
-ghosts-part g a = record { place = 1 }
