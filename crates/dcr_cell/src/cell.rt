@@ -39,16 +39,17 @@ impl<N: ClusterName> Cell<N> {
     ghost use Rattle.dcr_cell.specs.Laws.{asked};
 
     /// What was found of a call becomes what is found where this site is asked besides those that found it. It answers
-    /// by its own marks.
-    pub fn ask(&self, call: &Call, found: &mut Outcome)
+    /// by its own marks, and keeps what it found until they change.
+    pub fn ask(&mut self, call: &Call, found: &mut Outcome)
         requires named { IsNamed N.cluster N.turn }
         requires call { IsCall N.cluster call.now }
-        requires site { self.now.front.site < length N.cluster.owned }
-        requires stands { CellStands N.cluster self.now.front.site self.now.site.value self.now.front }
-        ensures { (fronts : List FrontValue) → Found N.cluster call.now fronts found.old → Found N.cluster call.now (fronts ++ self.now.front ∷ []) found.new }
+        requires site { self.old.front.site < length N.cluster.owned }
+        requires stands { CellStands N.cluster self.old.front.site self.old.site.value self.old.front }
+        ensures same { self.new ≡ self.old }
+        ensures found { (fronts : List FrontValue) → Found N.cluster call.now fronts found.old → Found N.cluster call.now (fronts ++ self.old.front ∷ []) found.new }
     {
         match asked_site(call) {
-            None => wait_besides(found, self.site.first_waiting()),
+            None => wait_besides(found, self.site.waits_again()),
             Some(i) => {
                 if i == self.front.site() {
                     self.answer(call, found);
@@ -77,31 +78,33 @@ impl<N: ClusterName> Cell<N> {
     }
 
     // What the one site that a call asks answers.
-    fn answer(&self, call: &Call, told: &mut Outcome)
+    fn answer(&mut self, call: &Call, told: &mut Outcome)
         requires named { IsNamed N.cluster N.turn }
         requires call { IsCall N.cluster call.now }
-        requires asked { asked call.now ≡ Some self.now.front.site }
-        requires site { self.now.front.site < length N.cluster.owned }
-        requires stands { CellStands N.cluster self.now.front.site self.now.site.value self.now.front }
-        ensures { told.new ≡ answer_after N.cluster self.now.front.front call.now }
+        requires asked { asked call.now ≡ Some self.old.front.site }
+        requires site { self.old.front.site < length N.cluster.owned }
+        requires stands { CellStands N.cluster self.old.front.site self.old.site.value self.old.front }
+        ensures same { self.new ≡ self.old }
+        ensures told { told.new ≡ answer_after N.cluster self.old.front.front call.now }
     {
         match call {
             Call::Exec(_, e) => decided(self.site.decide(*e), told),
-            _ => Self::show(&self.site, self.front.site(), call, told),
+            _ => Self::show(&mut self.site, self.front.site(), call, told),
         }
     }
 
     // The same of a call that is no execution, of the site alone, which stands after some entries. It stands by itself,
     // since room for sets of events is cleared where it begins, which executions need not wait for.
     #[inline(never)]
-    fn show(site: &Site, i: SiteId, call: &Call, told: &mut Outcome)
+    fn show(site: &mut Site, i: SiteId, call: &Call, told: &mut Outcome)
         requires asked { asked call.now ≡ Some i }
         requires other { (j e : ℕ) → call.now ≢ Exec j e }
-        ensures { (J : List Entry) → StandsAt N.cluster.rules (row N.cluster.owned i) (marking_after N.cluster J) site.now → told.new ≡ answer_after N.cluster J call.now }
+        ensures same { site.new ≡ site.old }
+        ensures told { (J : List Entry) → StandsAt N.cluster.rules (row N.cluster.owned i) (marking_after N.cluster J) site.old → told.new ≡ answer_after N.cluster J call.now }
     {
         match call {
             Call::Look(_) => *told = Outcome::Marks(site.mark()),
-            Call::Enabled(_) => *told = Outcome::Can(site.can()),
+            Call::Enabled(_) => *told = Outcome::Can(site.can_again()),
             Call::Exec(..) | Call::Accepting => unreachable!(),
         }
     }

@@ -128,8 +128,7 @@ impl<D: Disk, G: Gate, N: StoreName<D>> Cluster<D, G, N> {
         let Call::Exec(first, e) = call else {
             return None;
         };
-        let (grip, own) = self.cells.lock(rt, first.0).split();
-        *waited |= grip.has_waited();
+        let (grip, own) = self.cells.lock_noting(rt, first.0, waited).split();
         if !own.blocks(*e, found) {
             grip.join(own).unlock();
             return None;
@@ -166,8 +165,7 @@ impl<D: Disk, G: Gate, N: StoreName<D>> Cluster<D, G, N> {
             *ended = self.commit(rt, pass, fronts, call, found, waited);
             return;
         };
-        let (grip, cell) = self.cells.lock(rt, first.0).split();
-        *waited |= grip.has_waited();
+        let (grip, mut cell) = self.cells.lock_noting(rt, first.0, waited).split();
         cell.ask(call, found);
         let Cell { mut site, front } = cell;
         self.turn.put_on(fronts, front);
@@ -195,8 +193,7 @@ impl<D: Disk, G: Gate, N: StoreName<D>> Cluster<D, G, N> {
         ensures { Made N.cluster N.first N.capacity N.turn pass.old pass.new fronts.old fronts.new call.now (ending found.new result) }
     {
         self.gate.at(rt, pass.session(), pass.made());
-        let mut guard = self.turn.lock(rt);
-        *waited |= guard.has_waited();
+        let mut guard = self.turn.lock_noting(rt, waited);
         guard.meet(pass);
         let ended = enter(&mut guard, pass, fronts, call, found);
         guard.unlock();

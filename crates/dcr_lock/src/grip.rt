@@ -13,7 +13,6 @@ pub struct Grip<'a, T: Placed> {
     waiters: &'a Waiters,
     seat: PlaceSeat<T>,
     place: u16,
-    waited: bool,
 }
 
 impl<'a, T: Placed> Model for Grip<'a, T> {
@@ -35,7 +34,6 @@ impl<'a, T: Placed> Grip<'a, T> {
         waiters: &'a Waiters,
         seat: PlaceSeat<T>,
         place: u16,
-        waited: bool,
     ) -> Grip<'a, T>
         requires row { seat.table_id ≡ shared.now.table_id }
         requires place { HasPlace shared.now.table_id place }
@@ -47,13 +45,7 @@ impl<'a, T: Placed> Grip<'a, T> {
             waiters,
             seat,
             place,
-            waited,
         }
-    }
-
-    /// Whether the lock was not free at once when it was taken. It says something of speed alone.
-    pub fn has_waited(&self) -> bool {
-        self.waited
     }
 
     /// The place held with this value.
@@ -73,7 +65,6 @@ impl<'a, T: Placed> Grip<'a, T> {
             waiters,
             mut seat,
             place,
-            waited: _,
         } = self;
         seats::put_back(shared, &mut seat, place, value);
         seats::wake(shared, waiters, place);
@@ -86,7 +77,6 @@ impl<'a, T: Placed> Grip<'a, T> {
             waiters: _,
             mut seat,
             place,
-            waited: _,
         } = self;
         seats::leave_empty(shared, &mut seat, place);
     }

@@ -80,11 +80,20 @@ impl<T: Placed> Row<T> {
         ensures place { result.place ≡ place }
         ensures belongs { T.belongs place result.value }
     {
+        self.lock_noting(rt, place, &mut false)
+    }
+
+    /// As `lock`. Where the place was not free at once, `waited` becomes true: it says something of speed alone.
+    pub fn lock_noting<R: Wait>(&self, rt: &R, place: u16, waited: &mut bool) -> Held<'_, T>
+        requires { place < self.now }
+        ensures place { result.place ≡ place }
+        ensures belongs { T.belongs place result.value }
+    {
         let shared = &self.table.shared;
         let (_, mut seat) = shared.load_new_seat::<Sit>(place as usize);
         let waiters = &self.waiters[place as usize];
-        let (value, waited) = seats::take(shared, waiters, rt, &mut seat, place);
-        Grip::new(shared, waiters, seat, place, waited).join(value)
+        let value = seats::take(shared, waiters, rt, &mut seat, place, waited);
+        Grip::new(shared, waiters, seat, place).join(value)
     }
 
     /// Waits until the place is free, and changes its value under the lock. `change` is handed a value

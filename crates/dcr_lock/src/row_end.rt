@@ -57,7 +57,7 @@ impl<T: Placed> RowEnd<T> {
         let seat = &mut self.seat;
         // Nobody gives back a place of a row that is being ended, so nobody asks whether this thread waits.
         let waiters = Waiters::none();
-        let (value, _) = seats::take(&table.shared, &waiters, rt, seat, place);
+        let value = seats::take(&table.shared, &waiters, rt, seat, place, &mut false);
         seats::leave_empty(&table.shared, seat, place);
         self.emptied += 1;
         value

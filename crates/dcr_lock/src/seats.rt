@@ -9,28 +9,30 @@ use crate::waiters::Waiters;
 use std::hint::spin_loop;
 use std::sync::Wait;
 
-/// Waits until the place is free, and takes its value; tells besides whether it had to wait. The seat holds the place then,
-/// with its slot empty.
+/// Waits until the place is free, and takes its value. The seat holds the place then, with its slot empty. Where the place
+/// was not free at once, `waited` becomes true.
 pub(crate) fn take<T: Placed, R: Wait>(
     shared: &SharedPlaces<T>,
     waiters: &Waiters,
     rt: &R,
     seat: &mut PlaceSeat<T>,
     place: u16,
-) -> (T, bool)
+    waited: &mut bool,
+) -> T
     requires row { seat.old.table_id ≡ shared.now.table_id }
     requires place { HasPlace shared.now.table_id place }
     requires idle { seat.old.me ≡ idle seat.old.me.0.empty }
-    ensures belongs { T.belongs place result.0 }
+    ensures belongs { T.belongs place result }
     ensures same { (seat.new.table_id ≡ seat.old.table_id) × (seat.new.id ≡ seat.old.id) }
     ensures holds { seat.new.me ≡ holding place seat.old.me.0.empty }
 {
     let found = shared.compare_exchange::<Take>(seat, place as usize, FREE, TAKEN);
     if found == FREE {
-        return (take_out(shared, seat, place), false);
+        return take_out(shared, seat, place);
     }
+    *waited = true;
     wait_for(shared, waiters, rt, seat, place, found as u32);
-    (take_out(shared, seat, place), true)
+    take_out(shared, seat, place)
 }
 
 // Takes the value out of the slot of the place that the seat holds.

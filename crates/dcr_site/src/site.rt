@@ -28,6 +28,11 @@ pub enum Decision {
 pub struct Site {
     projection: Projection,
     mark: SiteMark,
+    // What was found since an execution was applied: the first event that waits, where that is known, and what can be
+    // executed.
+    knows_waits: bool,
+    waits: Option<EventId>,
+    can: Option<EventSet>,
 }
 
 impl Model for Site {
@@ -39,7 +44,18 @@ impl Model for Site {
 
     ghost view = { seen_of };
 
-    ghost invariant = { HasMarks };
+    ghost use Rattle.std.specs.Prelude.{◌≡◌, List, Bool, IsTrue, length};
+    ghost use Rattle.std.specs.Option.{ForSome};
+    ghost use Rattle.dcr_graph.specs.Rules.{Rules};
+    ghost use Rattle.dcr_graph.specs.Cause.{enabled_in};
+    ghost use Rattle.dcr_graph.specs.declared.marking.Marking.{Marking as Marks};
+    ghost use Rattle.dcr_site.specs.Decision.{owned_waits};
+    ghost use Rattle.dcr_site.specs.Seen.{StandsAt};
+
+    ghost invariant = { λ s. HasMarks s
+        × (IsTrue s.knows_waits → (G : Rules) (S : List Bool) (M : Marks) → StandsAt G S M (seen_of s) → s.waits ≡ owned_waits G S M)
+        × ForSome s.can (λ found. (length found ≡ length s.projection.own)
+        × ((G : Rules) (S : List Bool) (M : Marks) → StandsAt G S M (seen_of s) → found ≡ enabled_in G S M)) };
 }
 
 impl Site {
@@ -64,7 +80,13 @@ impl Site {
         ensures stands { (G : Rules) (S : List Bool) → projection ≡ projection_of G S → StandsAt G S start.now result }
     {
         let mark = projection.start(start);
-        Site { projection, mark }
+        Site {
+            projection,
+            mark,
+            knows_waits: false,
+            waits: None,
+            can: None,
+        }
     }
 
     /// What the site answers to an execution of the event, which is an atom.
@@ -103,6 +125,8 @@ impl Site {
     {
         let tracked = self.projection.tracked_ex().contains(e);
         apply_masks(&mut self.mark, &self.projection.effects(e), tracked, e);
+        self.knows_waits = false;
+        self.can = None;
     }
 
     /// The marks.
@@ -123,6 +147,20 @@ impl Site {
                 can.insert(e);
             }
         }
+        can
+    }
+
+    /// As `can`. What was found is kept until an execution is applied, so that who asks again gets it at once.
+    pub fn can_again(&mut self) -> EventSet
+        ensures same { self.new ≡ self.old }
+        ensures enabled { (G : Rules) (S : List Bool) (M : Marks) → StandsAt G S M self.old → result ≡ enabled_in G S M }
+        ensures room { length result ≡ length self.old.projection.own }
+    {
+        if let Some(can) = &self.can {
+            return can.copy();
+        }
+        let can = self.can();
+        self.can = Some(can.copy());
         can
     }
 
@@ -150,6 +188,18 @@ impl Site {
         self.projection
             .own()
             .first_common_three(&self.mark.included, &self.mark.pending)
+    }
+
+    /// As `first_waiting`. What was found is kept until an execution is applied.
+    pub fn waits_again(&mut self) -> Option<EventId>
+        ensures same { self.new ≡ self.old }
+        ensures waits { (G : Rules) (S : List Bool) (M : Marks) → StandsAt G S M self.old → result ≡ owned_waits G S M }
+    {
+        if !self.knows_waits {
+            self.waits = self.first_waiting();
+            self.knows_waits = true;
+        }
+        self.waits
     }
 }
 

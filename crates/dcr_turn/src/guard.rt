@@ -52,11 +52,6 @@ impl<'a, K: Keeps, N: TurnName> TurnGuard<'a, K, N> {
         }
     }
 
-    /// Whether the lock was not free at once when it was taken. It says something of speed alone.
-    pub fn has_waited(&self) -> bool {
-        self.grip.has_waited()
-    }
-
     /// The pass has seen the journal's list then, which begins with what it had seen. The session's entries there are
     /// those that the pass made.
     pub fn meet(&mut self, pass: &mut Pass<N>)

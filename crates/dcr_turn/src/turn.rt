@@ -86,7 +86,15 @@ impl<K: Keeps, N: TurnName> Turn<K, N> {
         ensures enlisted { result.enlisted ≡ [] }
         ensures kept { K.stands result.entries result.kept }
     {
-        let (grip, locked) = self.row.lock(rt, 0).split();
+        self.lock_noting(rt, &mut false)
+    }
+
+    /// As `lock`. Where the lock was not free at once, `waited` becomes true: it says something of speed alone.
+    pub fn lock_noting<R: Wait>(&self, rt: &R, waited: &mut bool) -> TurnGuard<'_, K, N>
+        ensures enlisted { result.enlisted ≡ [] }
+        ensures kept { K.stands result.entries result.kept }
+    {
+        let (grip, locked) = self.row.lock_noting(rt, 0, waited).split();
         TurnGuard::new(grip, &self.order, locked)
     }
 

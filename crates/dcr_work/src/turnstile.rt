@@ -7,7 +7,7 @@ use std::alloc::Global;
 use std::sync::Wait;
 
 // How many calls a worker makes before it lets the next one in.
-const CALLS: u32 = 256;
+const CALLS: u32 = 4_096;
 
 /// What stands at the one place of a turnstile.
 #[derive(Drop)]

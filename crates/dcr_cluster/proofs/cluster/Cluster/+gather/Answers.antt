@@ -1,4 +1,4 @@
-use Rattle.std.proofs.Common.{◌≡◌, inl, true, List, length, map, ◌<◌, ◌+◌, sym, ap, ◌∙◌, subst, arith}
+use Rattle.std.proofs.Common.{◌≡◌, inl, true, List, [], ◌∷◌, ◌++◌, length, map, ◌<◌, ◌+◌, sym, ap, ◌∙◌, subst, arith}
 use Rattle.dcr_set.specs.EventSet.{has}
 use Rattle.dcr_site.specs.Seen.{Seen, StandsAt}
 use Rattle.dcr_turn.specs.FrontValue.{FrontValue}
@@ -21,14 +21,14 @@ commit-requires g t c = record {
 pub ask-requires-clause-site : goal.ask-requires-clause-site
 ask-requires-clause-site g t c =
     let at : c.split-grip.result.1.front.site ≡ c.in-Some.first.now =
-    ap (λ (x : Cell g.row.N.Denot). x.front.site) c.split-grip.ensures.value ∙ c.lock.ensures.belongs.at ∙ c.first.view_is in
+    ap (λ (x : Cell g.row.N.Denot). x.front.site) c.split-grip.ensures.value ∙ c.lock_noting.ensures.belongs.at ∙ c.first.view_is in
     subst (λ i. i < length g.N.ClusterName.cluster.owned) (sym at)
     (first_within (length g.N.ClusterName.cluster.owned) c.in-Some.first.now c.args.left.now c.in-Some.rest.now c.requires.within c.in-Some.ensures.cases.0)
 
 pub gather-requires : goal.gather-requires
 gather-requires g t c κs within =
-    let at : c.split-grip.result.1.front.site ≡ c.in-Some.first.now =
-    ap (λ (x : Cell g.row.N.Denot). x.front.site) c.split-grip.ensures.value ∙ c.lock.ensures.belongs.at ∙ c.first.view_is in
+    let at : c.ask.new.self.front.site ≡ c.in-Some.first.now =
+    ap (λ (x : Cell g.row.N.Denot). x.front.site) (c.ask.ensures.same ∙ c.split-grip.ensures.value) ∙ c.lock_noting.ensures.belongs.at ∙ c.first.view_is in
     let fewer : length c.in-Some.rest.now + 1 ≡ length c.args.left.now = c.in-Some.ensures.cases.1 in
     let measure : length c.args.left.now ≡ t = c.decreases in (
       (let lower : length c.in-Some.rest.now < t = omega arith in lower),
@@ -43,11 +43,12 @@ gather-requires g t c κs within =
               (
                 c.requires.call,
                 (
-                  still_left c.args.fronts.now c.put_on.new.row c.split-grip.result.1.front c.in-Some.first.now c.args.left.now c.in-Some.rest.now
+                  still_left c.args.fronts.now c.put_on.new.row c.ask.new.self.front c.in-Some.first.now c.args.left.now c.in-Some.rest.now
                       (sites_for g.N.ClusterName.cluster g.N.TurnName.turn c.args.call.now) c.put_on.ensures at c.in-Some.ensures.cases.0 c.requires.sites,
                   (
                     rest_within (length g.N.ClusterName.cluster.owned) c.in-Some.first.now c.args.left.now c.in-Some.rest.now c.requires.within c.in-Some.ensures.cases.0,
-                    subst (λ (fronts : List FrontValue). Found g.N.ClusterName.cluster c.args.call.now fronts c.ask.new.found) (sym c.put_on.ensures) (c.ask.ensures c.args.fronts.now c.requires.found),
+                    subst (λ (fronts : List FrontValue). Found g.N.ClusterName.cluster c.args.call.now fronts c.ask.new.found) (sym c.put_on.ensures)
+                        (subst (λ (x : Cell g.row.N.Denot). Found g.N.ClusterName.cluster c.args.call.now (c.args.fronts.now ++ x.front ∷ []) c.ask.new.found) (sym c.ask.ensures.same) (c.ask.ensures.found c.args.fronts.now c.requires.found)),
                   ),
                 ),
               ),
@@ -59,48 +60,48 @@ gather-requires g t c κs within =
 
 pub take_off-front-requires : goal.take_off-front-requires
 take_off-front-requires g t c =
-    let at : c.split-grip.result.1.front.site ≡ c.first.inside.0 =
-    ap (λ (x : Cell g.row.N.Denot). x.front.site) c.split-grip.ensures.value ∙ c.lock.ensures.belongs.at in (
+    let at : c.ask.new.self.front.site ≡ c.first.inside.0 =
+    ap (λ (x : Cell g.row.N.Denot). x.front.site) (c.ask.ensures.same ∙ c.split-grip.ensures.value) ∙ c.lock_noting.ensures.belongs.at in (
       map (seeing c.gather.new.pass.front) c.args.fronts.now,
-      comes_back c.put_on.new.row c.args.fronts.now c.gather.new.fronts c.split-grip.result.1.front c.first.inside.0 c.gather.new.pass.front c.put_on.ensures at
+      comes_back c.put_on.new.row c.args.fronts.now c.gather.new.fronts c.ask.new.self.front c.first.inside.0 c.gather.new.pass.front c.put_on.ensures at
           c.gather.ensures.returned.fronts,
     )
 
 pub apply-requires : goal.apply-requires
 apply-requires g t c =
-    let stands : CellStands g.N.ClusterName.cluster c.in-Some.first.now c.split-grip.result.1.site.value c.split-grip.result.1.front =
-    subst (λ i. CellStands g.N.ClusterName.cluster i c.split-grip.result.1.site.value c.split-grip.result.1.front) c.first.view_is
-    (subst (λ (x : Cell g.row.N.Denot). CellStands g.N.ClusterName.cluster c.first.inside.0 x.site.value x.front) (sym c.split-grip.ensures.value) c.lock.ensures.belongs) in
+    let stands : CellStands g.N.ClusterName.cluster c.in-Some.first.now c.ask.new.self.site.value c.ask.new.self.front =
+    subst (λ i. CellStands g.N.ClusterName.cluster i c.ask.new.self.site.value c.ask.new.self.front) c.first.view_is
+    (subst (λ (x : Cell g.row.N.Denot). CellStands g.N.ClusterName.cluster c.first.inside.0 x.site.value x.front) (sym (c.ask.ensures.same ∙ c.split-grip.ensures.value)) c.lock_noting.ensures.belongs) in
     subst (λ (site : Seen). has site.projection.alphabet c.in-Some-done_by.e ≡ true) (sym c.deref_mut.ensures.value)
-    (cell_hears g.N.ClusterName.cluster g.N.TurnName.turn c.in-Some.first.now c.split-grip.result.1.site.value c.split-grip.result.1.front c.in-Some-done_by.e c.self.invariant.0.named
+    (cell_hears g.N.ClusterName.cluster g.N.TurnName.turn c.in-Some.first.now c.ask.new.self.site.value c.ask.new.self.front c.in-Some-done_by.e c.self.invariant.0.named
     (first_within (length g.N.ClusterName.cluster.owned) c.in-Some.first.now c.args.left.now c.in-Some.rest.now c.requires.within c.in-Some.ensures.cases.0) stands
     (is_participant g.N.ClusterName.cluster g.N.TurnName.turn c.args.call.now (ending c.gather.new.found c.gather.new.ended) c.in-Some-done_by.e c.in-Some.first.now (sym c.done_by.ensures ∙ c.in-Some-done_by.is)
     (first_there (sites_of c.args.fronts.now) c.args.left.now c.in-Some.rest.now (sites_for g.N.ClusterName.cluster g.N.TurnName.turn c.args.call.now) c.in-Some.first.now c.requires.sites c.in-Some.ensures.cases.0)))
 
 pub unlock-requires : goal.unlock-requires
 unlock-requires g t c =
-    let stands : CellStands g.N.ClusterName.cluster c.in-Some.first.now c.split-grip.result.1.site.value c.split-grip.result.1.front =
-    subst (λ i. CellStands g.N.ClusterName.cluster i c.split-grip.result.1.site.value c.split-grip.result.1.front) c.first.view_is
-    (subst (λ (x : Cell g.row.N.Denot). CellStands g.N.ClusterName.cluster c.first.inside.0 x.site.value x.front) (sym c.split-grip.ensures.value) c.lock.ensures.belongs) in
+    let stands : CellStands g.N.ClusterName.cluster c.in-Some.first.now c.ask.new.self.site.value c.ask.new.self.front =
+    subst (λ i. CellStands g.N.ClusterName.cluster i c.ask.new.self.site.value c.ask.new.self.front) c.first.view_is
+    (subst (λ (x : Cell g.row.N.Denot). CellStands g.N.ClusterName.cluster c.first.inside.0 x.site.value x.front) (sym (c.ask.ensures.same ∙ c.split-grip.ensures.value)) c.lock_noting.ensures.belongs) in
     let known : c.in-Some.first.now < length g.N.ClusterName.cluster.owned =
     first_within (length g.N.ClusterName.cluster.owned) c.in-Some.first.now c.args.left.now c.in-Some.rest.now c.requires.within c.in-Some.ensures.cases.0 in
-    let again : c.take_off-front.result ≡ seeing c.gather.new.pass.front c.split-grip.result.1.front =
-    (came_back c.put_on.new.row c.args.fronts.now c.gather.new.fronts c.take_off-front.new.row c.split-grip.result.1.front c.take_off-front.result c.gather.new.pass.front c.put_on.ensures
+    let again : c.take_off-front.result ≡ seeing c.gather.new.pass.front c.ask.new.self.front =
+    (came_back c.put_on.new.row c.args.fronts.now c.gather.new.fronts c.take_off-front.new.row c.ask.new.self.front c.take_off-front.result c.gather.new.pass.front c.put_on.ensures
     c.gather.ensures.returned.fronts c.take_off-front.ensures.rest).1 in
-    let back : CellStands g.N.ClusterName.cluster c.in-Some.first.now c.match-done_by.site.value (seeing c.gather.new.pass.front c.split-grip.result.1.front) = elim c.match-done_by.branch [
+    let back : CellStands g.N.ClusterName.cluster c.in-Some.first.now c.match-done_by.site.value (seeing c.gather.new.pass.front c.ask.new.self.front) = elim c.match-done_by.branch [
       | in-Some-done_by w ↦
-          subst (λ (site : _). CellStands g.N.ClusterName.cluster c.in-Some.first.now site.value (seeing c.gather.new.pass.front c.split-grip.result.1.front)) (sym w.site-is)
-          (stepped_on g.N.ClusterName.cluster g.N.StoreName.first g.N.TurnName.capacity g.N.TurnName.turn c.in-Some.first.now w.in-Some-done_by.e c.split-grip.result.1.site.value w.apply.new.self
-          c.split-grip.result.1.front c.put_on.new.row c.args.fronts.now c.gather.new.fronts c.args.pass.now c.gather.new.pass c.args.call.now (ending c.gather.new.found c.gather.new.ended)
+          subst (λ (site : _). CellStands g.N.ClusterName.cluster c.in-Some.first.now site.value (seeing c.gather.new.pass.front c.ask.new.self.front)) (sym w.site-is)
+          (stepped_on g.N.ClusterName.cluster g.N.StoreName.first g.N.TurnName.capacity g.N.TurnName.turn c.in-Some.first.now w.in-Some-done_by.e c.ask.new.self.site.value w.apply.new.self
+          c.ask.new.self.front c.put_on.new.row c.args.fronts.now c.gather.new.fronts c.args.pass.now c.gather.new.pass c.args.call.now (ending c.gather.new.found c.gather.new.ended)
           c.self.invariant.0.named known stands c.put_on.ensures c.gather.ensures (sym c.done_by.ensures ∙ w.in-Some-done_by.is)
           (λ G S M at. w.apply.ensures.stepped G S M (subst (StandsAt G S M) (sym w.deref_mut.ensures.value) at)))
       | in_default-done_by w ↦
-          subst (λ (site : _). CellStands g.N.ClusterName.cluster c.in-Some.first.now site.value (seeing c.gather.new.pass.front c.split-grip.result.1.front)) (sym w.site-is)
-          (left_as_is g.N.ClusterName.cluster g.N.StoreName.first g.N.TurnName.capacity g.N.TurnName.turn c.in-Some.first.now c.split-grip.result.1.site.value
-          c.split-grip.result.1.front c.put_on.new.row c.args.fronts.now c.gather.new.fronts c.args.pass.now c.gather.new.pass c.args.call.now (ending c.gather.new.found c.gather.new.ended)
+          subst (λ (site : _). CellStands g.N.ClusterName.cluster c.in-Some.first.now site.value (seeing c.gather.new.pass.front c.ask.new.self.front)) (sym w.site-is)
+          (left_as_is g.N.ClusterName.cluster g.N.StoreName.first g.N.TurnName.capacity g.N.TurnName.turn c.in-Some.first.now c.ask.new.self.site.value
+          c.ask.new.self.front c.put_on.new.row c.args.fronts.now c.gather.new.fronts c.args.pass.now c.gather.new.pass c.args.call.now (ending c.gather.new.found c.gather.new.ended)
           c.self.invariant.0.named known stands c.put_on.ensures c.gather.ensures (sym c.done_by.ensures ∙ w.in_default-done_by.is))
     ] in
-    let place : c.join.result.place ≡ c.in-Some.first.now = c.join.ensures.place ∙ c.split-grip.ensures.place ∙ c.lock.ensures.place ∙ c.first.view_is in
+    let place : c.join.result.place ≡ c.in-Some.first.now = c.join.ensures.place ∙ c.split-grip.ensures.place ∙ c.lock_noting.ensures.place ∙ c.first.view_is in
     subst (λ i. CellStands g.N.ClusterName.cluster i c.join.result.value.site.value c.join.result.value.front) (sym place)
     (subst (λ (x : Cell g.row.N.Denot). CellStands g.N.ClusterName.cluster c.in-Some.first.now x.site.value x.front) (sym c.join.ensures.value)
     (subst (λ (f : FrontValue). CellStands g.N.ClusterName.cluster c.in-Some.first.now c.match-done_by.site.value f) (sym again) back))
@@ -108,7 +109,7 @@ unlock-requires g t c =
 pub returns : goal.returns
 returns g t c =
     made_without g.N.ClusterName.cluster g.N.StoreName.first g.N.TurnName.capacity g.N.TurnName.turn c.args.pass.now c.gather.new.pass c.put_on.new.row c.args.fronts.now
-    c.gather.new.fronts c.take_off-front.new.row c.split-grip.result.1.front c.args.call.now (ending c.gather.new.found c.gather.new.ended) c.put_on.ensures
-    (came_back c.put_on.new.row c.args.fronts.now c.gather.new.fronts c.take_off-front.new.row c.split-grip.result.1.front c.take_off-front.result c.gather.new.pass.front c.put_on.ensures
+    c.gather.new.fronts c.take_off-front.new.row c.ask.new.self.front c.args.call.now (ending c.gather.new.found c.gather.new.ended) c.put_on.ensures
+    (came_back c.put_on.new.row c.args.fronts.now c.gather.new.fronts c.take_off-front.new.row c.ask.new.self.front c.take_off-front.result c.gather.new.pass.front c.put_on.ensures
     c.gather.ensures.returned.fronts c.take_off-front.ensures.rest).0
     c.gather.ensures

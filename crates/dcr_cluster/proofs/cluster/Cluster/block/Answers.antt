@@ -17,7 +17,7 @@ use Rattle.dcr_cluster.proofs.cluster.Cluster.block.Goals as goal
 pub take_off-front-requires : goal.take_off-front-requires
 take_off-front-requires g c =
     let own = c.split-grip.result.1 in
-    let at : own.front.site ≡ c.first.inside.0 = ap (λ (x : Cell g.row.N.Denot). x.front.site) c.split-grip.ensures.value ∙ c.lock.ensures.belongs.at in (
+    let at : own.front.site ≡ c.first.inside.0 = ap (λ (x : Cell g.row.N.Denot). x.front.site) c.split-grip.ensures.value ∙ c.lock_noting.ensures.belongs.at in (
       map (seeing c.commit-ended.new.pass.front) c.args.fronts.now,
       comes_back c.put_on.new.row c.args.fronts.now c.commit-ended.new.fronts own.front c.first.inside.0 c.commit-ended.new.pass.front c.put_on.ensures at c.commit-ended.ensures.returned.fronts,
     )
@@ -26,9 +26,9 @@ pub unlock-requires-2 : goal.unlock-requires-2
 unlock-requires-2 g c =
     let C = g.N.ClusterName.cluster in let T = g.N.TurnName.turn in let call = c.args.call.now in let own = c.split-grip.result.1 in let row = c.put_on.new.row in
     let found = c.blocks-2.new.found in let result = ending c.commit-ended.new.found c.commit-ended.result in let after = c.commit-ended.new.pass in
-    let at : own.front.site ≡ c.in-Exec.first = ap (λ (x : Cell g.row.N.Denot). x.front.site) c.split-grip.ensures.value ∙ c.lock.ensures.belongs.at ∙ c.first.view_is in
+    let at : own.front.site ≡ c.in-Exec.first = ap (λ (x : Cell g.row.N.Denot). x.front.site) c.split-grip.ensures.value ∙ c.lock_noting.ensures.belongs.at ∙ c.first.view_is in
     let stands : CellStands C c.in-Exec.first own.site.value own.front =
-    subst (λ i. CellStands C i own.site.value own.front) c.first.view_is (subst (λ (x : Cell g.row.N.Denot). CellStands C c.first.inside.0 x.site.value x.front) (sym c.split-grip.ensures.value) c.lock.ensures.belongs) in
+    subst (λ i. CellStands C i own.site.value own.front) c.first.view_is (subst (λ (x : Cell g.row.N.Denot). CellStands C c.first.inside.0 x.site.value x.front) (sym c.split-grip.ensures.value) c.lock_noting.ensures.belongs) in
     let within : c.in-Exec.first < length C.owned = (subst (IsCall C) c.in-Exec.is c.requires.call).0 in
     let only : row ≡ own.front ∷ [] = c.put_on.ensures ∙ ap (λ (l : List FrontValue). l ++ own.front ∷ []) c.requires.none in
     let blocked = c.blocks-2.ensures.blocked c.if-not-blocks.false in
@@ -48,7 +48,7 @@ unlock-requires-2 g c =
     let again : c.take_off-front.result ≡ seeing after.front own.front =
     (came_back row c.args.fronts.now c.commit-ended.new.fronts c.take_off-front.new.row own.front c.take_off-front.result after.front c.put_on.ensures c.commit-ended.ensures.returned.fronts
     c.take_off-front.ensures.rest).1 in
-    let place : c.join-2.result.place ≡ c.in-Exec.first = c.join-2.ensures.place ∙ c.split-grip.ensures.place ∙ c.lock.ensures.place ∙ c.first.view_is in
+    let place : c.join-2.result.place ≡ c.in-Exec.first = c.join-2.ensures.place ∙ c.split-grip.ensures.place ∙ c.lock_noting.ensures.place ∙ c.first.view_is in
     subst (λ i. CellStands C i c.join-2.result.value.site.value c.join-2.result.value.front) (sym place)
     (subst (λ (x : Cell g.row.N.Denot). CellStands C c.in-Exec.first x.site.value x.front) (sym c.join-2.ensures.value)
     (subst (λ (f : FrontValue). CellStands C c.in-Exec.first own.site.value f) (sym again) back))

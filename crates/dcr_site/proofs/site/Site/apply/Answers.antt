@@ -14,5 +14,5 @@ returns-clause-stepped c = λ G S M at.
     (subst (λ s. has s.projection.alphabet c.args.e ≡ true) (sym c.self.view_is) c.requires)
     c.effects.ensures.row
     (c.apply_masks.ensures.marks
-    ∙ ap (λ n. marks_after (lent_effects n c.effects.result) c.contains-tracked.result c.self.inside.mark c.args.e) c.self.invariant.pending
+    ∙ ap (λ n. marks_after (lent_effects n c.effects.result) c.contains-tracked.result c.self.inside.mark c.args.e) c.self.invariant.0.pending
     ∙ ap (λ t. marks_after (lent_effects (length c.self.inside.projection.own) c.effects.result) t c.self.inside.mark c.args.e) (c.contains-tracked.ensures ∙ ap (λ s. has s c.args.e) c.tracked_ex.ensures.tracked))

@@ -32,13 +32,13 @@ open_told : (c : After-open_condition)
     → first_in_both_without (or_nothing (length c.self.inside.projection.own) (option_copied c.guards-guards.result.condition)) c.self.inside.mark.included c.self.inside.mark.executed ≡ c.open_condition.result
 open_told c =
     let m = c.self.inside.mark in
-    sym (c.open_condition.ensures ∙ ap (λ n. first_in_both_without (or_nothing n (option_copied c.guards-guards.result.condition)) m.included m.executed) c.self.invariant.included)
+    sym (c.open_condition.ensures ∙ ap (λ n. first_in_both_without (or_nothing n (option_copied c.guards-guards.result.condition)) m.included m.executed) c.self.invariant.0.included)
 
 pending_told : (c : After-pending_milestone)
     → first_in_three (or_nothing (length c.self.inside.projection.own) (option_copied c.guards-guards.result.milestone)) c.self.inside.mark.included c.self.inside.mark.pending ≡ c.pending_milestone.result
 pending_told c =
     let m = c.self.inside.mark in
-    sym (c.pending_milestone.ensures ∙ ap (λ n. first_in_three (or_nothing n (option_copied c.guards-guards.result.milestone)) m.included m.pending) c.self.invariant.included)
+    sym (c.pending_milestone.ensures ∙ ap (λ n. first_in_three (or_nothing n (option_copied c.guards-guards.result.milestone)) m.included m.pending) c.self.invariant.0.included)
 
 included : (c : After-guards-guards) → has c.self.inside.mark.included c.args.e ≡ true
 included c = sym c.contains-2.ensures ∙ c.if-not-contains-2.false
