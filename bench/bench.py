@@ -5,12 +5,13 @@
     bench/bench.py run [--instructions]     runs of the largest cases
     bench/bench.py replay [--instructions]  the replay of reports of such runs
     bench/bench.py read                     the inputs of 16 MB
+    bench/bench.py long                     runs with long reports, by one, two and four processors
 
 Each line is of three runs: the least processor time (user and system), the least wall time and the greatest peak memory
 of the process. With `--instructions` these two tables tell how many million instructions it takes too, counted by
 valgrind's callgrind, for which the runs take some four minutes more and the replays half a one; without the word, and
 where no `valgrind` is on the path, a dash stands there. Below "at most" stands what is wanted of the column before.
-The ratio of the last table is that of the processor times.
+The ratio of the third table is that of the processor times.
 The program is `crates/dcr/out/dcr`, or the one that the environment variable DCR names.
 The inputs are made anew from fixed seeds; nothing is kept. Build first: `./dcr` builds the program, and
 `rt run` in crates/bench_json the JSON reader alone.
@@ -49,14 +50,15 @@ print(seconds, usage.ru_utime + usage.ru_stime, usage.ru_maxrss / 1024)
 """
 
 
-def measure(command, text, times=3):
-    """Of so many runs: (status, least seconds, least processor seconds, greatest peak MB)."""
+def measure(command, text, times=3, cores=None):
+    """Of so many runs, by these processors alone: (status, least seconds, least processor seconds, greatest peak MB)."""
+    limit = cores and (lambda: os.sched_setaffinity(0, cores))
     with tempfile.NamedTemporaryFile() as file:
         file.write(text)
         file.flush()
         runs = []
         for _ in range(times):
-            told = subprocess.run([sys.executable, "-I", "-S", "-c", ONCE, file.name, *command], stdout=subprocess.PIPE, check=True).stdout
+            told = subprocess.run([sys.executable, "-I", "-S", "-c", ONCE, file.name, *command], stdout=subprocess.PIPE, check=True, preexec_fn=limit).stdout
             status, *figures = told.split()
             runs.append((int(status), *map(float, figures)))
     statuses, seconds, cpu, peak = zip(*runs)
@@ -162,11 +164,35 @@ def looks(atoms):
     return case_file('"graph":{"events":[%s]},"cover":[{"site":"s","events":[%s]}]' % (events, owned), [["look s"] * 200_000])
 
 
+def scattered():
+    """Looks at 1,024 events whose marks lie scattered, so that the names in a line are those of many short runs."""
+    events = ",".join('{"name":"e%d","executed":%s,"pending":%s,"included":%s}' % (k, *(str(it).lower() for it in (k % 2 == 0, k % 3 == 0, k % 5 != 0))) for k in range(1024))
+    owned = ",".join('"e%d"' % k for k in range(1024))
+    return case_file('"graph":{"events":[%s]},"cover":[{"site":"s","events":[%s]}]' % (events, owned), [["look s"] * 200_000])
+
+
 def questions(atoms, sites, seed):
     """A case like the largest whose 200,000 calls all ask what is enabled, round the sites."""
     places = named("s", sites)
     opened = opening(random.Random(seed), named("e", atoms), places)
     return case_file(opened, dealt(["enabled %s" % places[k % sites] for k in range(200_000)]))
+
+
+def verdicts(atoms, sites, seed):
+    """A case like the largest whose 200,000 calls all ask whether it is accepting, of all sites."""
+    opened = opening(random.Random(seed), named("e", atoms), named("s", sites))
+    return case_file(opened, dealt(["accepting"] * 200_000))
+
+
+def dense(atoms, sites, word):
+    """A case in which each event is related to each, itself too, by four kinds; its 200,000 calls execute events or ask what is enabled."""
+    names, places = named("e", atoms), named("s", sites)
+    events = ",".join(['{"name":"all"}'] + ['{"name":"%s","parent":"all"}' % name for name in names])
+    relations = ",".join('["%s","all","all"]' % kind for kind in ("condition", "response", "milestone", "include"))
+    cover = ",".join('{"site":"%s","events":[%s]}' % (place, ",".join('"%s"' % name for name in names[k::sites])) for k, place in enumerate(places))
+    opened = '"graph":{"events":[%s],"relations":[%s]},"cover":[%s]' % (events, relations, cover)
+    behind = (lambda k: " " + names[k % atoms]) if word == "exec" else (lambda k: "")
+    return case_file(opened, dealt(["%s %s%s" % (word, places[k % sites], behind(k)) for k in range(200_000)]))
 
 
 def everywhere():
@@ -194,6 +220,16 @@ RUNS = [
     ("1,024 atoms, 200,000 looks", lambda: looks(1024), 200_000, None, None),
     ("256 atoms, 16 sites, 200,000 enabled", lambda: questions(256, 16, 1), 200_000, 1000, None),
     ("1,024 atoms, all at 64 sites, 199,680 done", everywhere, 199_680, None, None),
+    ("1,024 atoms, 64 sites, 200,000 accepting", lambda: verdicts(1024, 64, 2), 200_000, None, None),
+    ("1,024 atoms, 64 sites, all related, exec", lambda: dense(1024, 64, "exec"), 200_000, None, 40),
+    ("1,024 atoms, one site, all related, enabled", lambda: dense(1024, 1, "enabled"), 200_000, None, None),
+]
+
+# The cases with long reports: of 1 GB, of 1.7 GB, and of 18.7 MB.
+LONG = [
+    ("1,024 atoms, 200,000 looks", lambda: looks(1024)),
+    ("1,024 atoms, 200,000 looks, scattered", scattered),
+    ("256 atoms, 16 sites, 200,000 calls", lambda: largest(256, 16, 1)),
 ]
 
 # The case, and how many million instructions the replay of its report takes at most.
@@ -266,9 +302,19 @@ def read_table():
         print("%-40s %6d %9.2f %9.2f %9.1f | %8.2f %8.2f %8.1f %6.2f" % row)
 
 
+def long_table():
+    cores = sorted(os.sched_getaffinity(0))
+    counts = [count for count in (1, 2, 4) if count <= len(cores)]
+    print("%-42s %s" % ("run", "".join("%8s %8s %8s" % ("by %d: s" % count, "cpu s", "peak MB") for count in counts)))
+    for name, make in LONG:
+        text = make()
+        runs = [measure(PROGRAM, text, cores=cores[:count])[1:] for count in counts]
+        print("%-42s %s" % (name, "".join("%8.2f %8.2f %8.1f" % it for it in runs)), flush=True)
+
+
 def main(words):
-    is_counted = words[1:] == ["--instructions"] and words[0] != "read"
-    if words[:1] not in ([], ["run"], ["replay"], ["read"]) or (words[1:] and not is_counted):
+    is_counted = words[1:] == ["--instructions"] and words[0] in ("run", "replay")
+    if words[:1] not in ([], ["run"], ["replay"], ["read"], ["long"]) or (words[1:] and not is_counted):
         sys.exit(__doc__)
     if words[:1] in ([], ["run"]):
         run_table(is_counted)
@@ -276,6 +322,8 @@ def main(words):
         replay_table(is_counted)
     if words[:1] in ([], ["read"]):
         read_table()
+    if words[:1] in ([], ["long"]):
+        long_table()
 
 
 if __name__ == "__main__":

@@ -144,13 +144,15 @@ class Bodies:
             lines = self.said(texts, taken)
             told = dict(it.groups() for it in map(VERDICT.match, lines) if it)
             if not told and len(taken) > 1:
-                # (the front end took none of them: fewer at a time)
+                # (the front end took none of them, for one that it doesn't take: fewer at a time until that is found)
                 most = len(taken) // 2
                 continue
+            most = len(edits)
             for path, edit in taken.items():
                 names = [it for it in told if it.endswith("::" + path)]
                 why = self.why(names[0], told[names[0]], lines) if len(names) == 1 else None
-                turns[edit] = turns[edit] + 1 if why is None and told else TURNS
+                # (alone it would be told the same once more)
+                turns[edit] = turns[edit] + 1 if why is None and told and len(taken) > 1 else TURNS
                 if why:
                     found[edit] = why
             left = [it for it in left if turns[it] < TURNS]

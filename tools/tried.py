@@ -2,7 +2,8 @@
 
 A wrong body is a file `crates/NAME/edits/IT.edit`: lines `file: src/..`, `old: TEXT` and `new: TEXT`, where the old text
 stands in that file exactly once. `crates/NAME/edits/TRIED` has a line for each: its name, what it came to, and a checksum
-of what that rests on, which is the crate's own files, the definitions of the crates below it, the edit and the kit.
+of what that rests on. A body is wrong where it doesn't do what the clauses say, so that is the crate's own files, the
+definitions of the crates below that these are made of, the edit and the kit.
 """
 
 import glob
@@ -10,8 +11,10 @@ import hashlib
 import os
 import subprocess
 
+from definitions import Definitions
+
 TOP = os.path.dirname(os.path.dirname(os.path.realpath(__file__)))
-OWN, BELOW = ("src", "specs", "proofs"), ("specs",)
+OWN = ("src", "specs", "proofs")
 # The word of the record for each thing that rt says of an edit, the longer ones first.
 WORDS = (
     ("refused, as it must be (only because a proof file names", "only-by-a-name"),
@@ -101,26 +104,27 @@ class Sums:
     """The checksums of what the results of edits rest on, in one state of the repository."""
 
     def __init__(self, top=TOP):
-        self.top, self.used, self.version, self.parts = top, crates(top), version(), {}
+        self.top, self.used, self.version = top, crates(top), version()
+        self.definitions, self.parts = Definitions(top), {}
 
-    def part(self, name, folders):
-        """A checksum of these folders of a crate."""
-        if (name, folders) not in self.parts:
+    def part(self, name):
+        """A checksum of a crate's own files and of the definitions of crates below that they are made of."""
+        if name not in self.parts:
             found = hashlib.sha256()
-            for folder in folders:
+            for folder in OWN:
                 for path in sorted(glob.glob(os.path.join(self.top, "crates", name, folder, "**", "*.*"), recursive=True)):
                     if os.path.isfile(path):
                         with open(path, "rb") as it:
                             text = it.read()
                         found.update(b"%s %d\n%s" % (os.path.relpath(path, self.top).encode(), len(text), text))
-            self.parts[name, folders] = found.digest()
-        return self.parts[name, folders]
+            for crate, file, text in self.definitions.reached(name, below(name, self.used), OWN):
+                found.update(("%s %s %d\n%s" % (crate, file, len(text), text)).encode())
+            self.parts[name] = found.digest()
+        return self.parts[name]
 
     def of(self, name, edit):
         """The checksum of what the result of this edit of the crate rests on."""
-        found = hashlib.sha256(self.version + self.part(name, OWN))
-        for it in below(name, self.used):
-            found.update(it.encode() + self.part(it, BELOW))
+        found = hashlib.sha256(self.version + self.part(name))
         with open(edit, "rb") as it:
             found.update(it.read())
         return found.hexdigest()

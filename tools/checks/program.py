@@ -153,6 +153,15 @@ def check_several_workers_make_valid_reports():
             want(dcr("replay", given=report) == (DONE, b"valid " + count, b""), "%s by %s workers" % (name, workers))
 
 
+def check_a_long_report_is_the_same_by_any_number_of_processors():
+    given = large_case(3_000)
+    status, report, _ = dcr("run", given=given)
+    one = min(os.sched_getaffinity(0))
+    alone = dcr("run", given=given, preexec_fn=lambda: os.sched_setaffinity(0, {one}))
+    want(status == DONE and alone == (DONE, report, b""), "statuses %d and %d, or another report" % (status, alone[0]))
+    want(dcr("replay", given=report) == (DONE, b"valid 3000\n", b""), "the report is not valid")
+
+
 # The tape of examples/medication.json: pm, s and s at the doctor, dt and gm at the nurse.
 def medication_tape():
     head = b"".join(read("examples/medication.report").splitlines(True)[1:4])

@@ -11,7 +11,7 @@ from checks.program import prepare  # noqa: F401
 
 STORED = os.path.join(EXAMPLES, "stored")
 # The tools that a user calls: all of tools/ but the parts that they share.
-PARTS = ["bodies.py", "build.py", "case.py", "command.py", "convert.py", "event_log.py", "explain_log.py", "explain_roles.py", "earlier.py", "layout.py", "odd.py", "roles.py", "told.py", "tried.py"]
+PARTS = ["bodies.py", "build.py", "case.py", "command.py", "convert.py", "definitions.py", "event_log.py", "explain_log.py", "explain_roles.py", "earlier.py", "layout.py", "odd.py", "roles.py", "told.py", "tried.py"]
 
 
 def tool(name, *words, given=b"", **how):

@@ -1,5 +1,6 @@
 -- What `adapt` answers.
-use Rattle.std.proofs.Common.{◌≡◌, ◌≢◌, ◌⊎◌, ℕ, zero, suc, ◌+◌, ◌-◌, ◌<◌, ◌≤◌, arith, List, [], ◌∷◌, ◌++◌, length, drop, map, take, Option, Some, None, Result, Ok, Err, inl, inr, refl, sym, ap, subst, ◌∙◌}
+use Rattle.std.proofs.Common.{◌≡◌, ◌≢◌, ℕ, zero, suc, ◌+◌, ◌-◌, ◌<◌, ◌≤◌, arith, List, [], ◌∷◌, ◌++◌, length, map, take, Option, Some, None, Result, Ok, Err, inr, refl, sym, ap, subst, ◌∙◌}
+use Rattle.std.specs.Prelude.{⊤}
 use Rattle.std.specs.Io.KnownBytes.{Appends}
 use Rattle.std.specs.List.{All, slice_get}
 use Rattle.std.proofs.lemmas.List.{append-nil, length-append, take_all, take-append-le}
@@ -8,16 +9,14 @@ use Rattle.dcr_base.specs.Count.{Rose}
 use Rattle.dcr_base.specs.Disk.{DiskView}
 use Rattle.dcr_base.specs.Side.{Adds, Side, Stopped}
 use Rattle.dcr_base.specs.declared.status.Status.{Status}
-use Rattle.dcr_base.specs.declared.status.Status.TheVariants.{Done, Usage, Refused, ReadFault, WriteFault, NoMemory, DiskFault, Invalid, Full, TapeRefused, DoorFault}
+use Rattle.dcr_base.specs.declared.status.Status.TheVariants.{Done, WriteFault, NoMemory}
 use Rattle.dcr_graph.specs.Cause.{waits}
 use Rattle.dcr_graph.specs.GraphValue.{Flat, rules_of}
-use Rattle.dcr_graph.specs.Projection.{HasRoom}
 use Rattle.dcr_graph.specs.Rules.{Rules}
 use Rattle.dcr_graph.specs.declared.marking.Marking.{Marking}
-use Rattle.dcr_nest.specs.FlatRelation.{IsFlattening, flat_relation, of_atoms}
-use Rattle.dcr_nest.specs.Nest.{Nest, names_of, parents_of}
+use Rattle.dcr_nest.specs.FlatRelation.{IsFlattening}
 use Rattle.dcr_proj.specs.CoverValue.{Owners}
-use Rattle.dcr_journal.specs.Run.{HasNoFault, IsLegal, after, marks_at, told}
+use Rattle.dcr_journal.specs.Run.{HasNoFault, after, marks_at, told}
 use Rattle.dcr_journal.specs.declared.call.Call.{Call}
 use Rattle.dcr_journal.specs.declared.call.Entry.{Entry}
 use Rattle.dcr_journal.specs.declared.closed.Closed.{Closed}
@@ -29,20 +28,21 @@ use Rattle.dcr_engine.specs.Ran.{HasRun, cluster_of}
 use Rattle.dcr_json.specs.Built.{IsCase, case_of}
 use Rattle.dcr_json.specs.Judged.{Spelled}
 use Rattle.dcr_json.specs.declared.case.Case.{Case}
-use Rattle.dcr_report.specs.Report.{lines_text, report_lines, report_text, version_text}
+use Rattle.dcr_report.specs.Report.{report_text}
 use Rattle.dcr_replay.specs.Laws.{IsReport}
 use Rattle.dcr_adapt.specs.Carried.{carried}
 use Rattle.dcr_adapt.specs.Stages.{stages_in}
 use Rattle.dcr_adapt.specs.declared.stop.StageStop.{StageStop}
-use Rattle.dcr_adapt.specs.declared.stop.StageStop.TheVariants as stage
-use Rattle.dcr_app.specs.Adapted.{AnswersStages, BeginsAsWritten, BeginsAt, EndsStages, GoesOn, IsAnsweredStages, IsRunOfStage, IsToldOf, RanStage, RunsStages, Stage, case_of_stage, ending_of, history_of, report_of, reports_of, stage_line, stages_from}
+use Rattle.dcr_app.specs.Adapted.{BeginsAsWritten, BeginsAt, EndsStages, GoesOn, IsAnsweredStages, IsRunOfStage, IsToldOf, RanAlone, RunsStages, Stage, TellsStages, case_of_stage, ending_of, history_of, report_of, reports_of, stages_from}
+use Rattle.dcr_app.specs.Answers.{AnswersPlain, bytes_told}
 use Rattle.dcr_app.specs.Headline.{rules_in}
-use Rattle.dcr_app.specs.Outside.{IsStarved, WereLeft, Wrote}
+use Rattle.dcr_app.specs.Outside.{Wrote, wrote_all, write_failed, write_starved}
 use Rattle.dcr_app.specs.Telling.{atoms_in}
-use Rattle.dcr_app.specs.declared.answer.Answer.{Answer}
-use Rattle.dcr_app.specs.declared.command.Command.TheVariants.{Adapt}
-use Rattle.dcr_app.proofs.OutsideLemmas.{HasEnded, appends_nothing, by_starved, by_wrote, due_or, seen, ended_silent, ended_with}
-use Rattle.dcr_app.proofs.OverLemmas.{off_stands}
+use Rattle.dcr_app.specs.declared.command.Command.TheVariants.{Read}
+use Rattle.dcr_app.specs.declared.command.Reading.TheVariants.{Adapt}
+use Rattle.dcr_app.proofs.LinksLemmas.{some_bytes}
+use Rattle.dcr_app.proofs.OutsideLemmas.{IsEnded, appends_nothing, ended_with, wrote_at}
+use Rattle.dcr_app.proofs.OverLemmas.{off_stands, run_on}
 use Rattle.dcr_app.proofs.RunLemmas.{report_of_run}
 use Rattle.dcr_app.proofs.SaysLemmas.{SaysAt}
 
@@ -102,18 +102,10 @@ adds_behind x y had mid took first then = (added_then had.bytes mid.bytes took.b
 
 -- a text was written, and another was due behind it
 wrote_behind : (x y : List ℕ) (status : Status) (had mid took : Side) → Adds x had mid → Wrote Done y status mid took → Wrote Done (x ++ y) status had took
-wrote_behind x y WriteFault had mid took first it =
-    (stopped_behind x y had mid took first.0 it.0, (let same = first.1 in let more = it.1 in omega arith), subst (λ n. Rose n took.faults) first.1 it.2)
-wrote_behind x y NoMemory had mid took first it = (stopped_behind x y had mid took first.0 it.0, it.1 ∙ first.1)
-wrote_behind x y Done had mid took first it = (it.0, adds_behind x y had mid took first it.1)
-wrote_behind x y Usage had mid took first it = (it.0, adds_behind x y had mid took first it.1)
-wrote_behind x y Refused had mid took first it = (it.0, adds_behind x y had mid took first it.1)
-wrote_behind x y ReadFault had mid took first it = (it.0, adds_behind x y had mid took first it.1)
-wrote_behind x y DiskFault had mid took first it = (it.0, adds_behind x y had mid took first it.1)
-wrote_behind x y Invalid had mid took first it = (it.0, adds_behind x y had mid took first it.1)
-wrote_behind x y Full had mid took first it = (it.0, adds_behind x y had mid took first it.1)
-wrote_behind x y TapeRefused had mid took first it = (it.0, adds_behind x y had mid took first it.1)
-wrote_behind x y DoorFault had mid took first it = (it.0, adds_behind x y had mid took first it.1)
+wrote_behind x y status had mid took first (wrote_all is then) = wrote_all is (adds_behind x y had mid took first then)
+wrote_behind x y status had mid took first (write_failed is stopped fails) =
+    write_failed is (stopped_behind x y had mid took first.0 stopped) ((let same = first.1 in let more = fails.0 in omega arith), subst (λ n. Rose n took.faults) first.1 fails.1)
+wrote_behind x y status had mid took first (write_starved is stopped same) = write_starved is (stopped_behind x y had mid took first.0 stopped) (same ∙ first.1)
 
 stopped_before : (x y : List ℕ) (had took : Side) → Stopped x had took → Stopped (x ++ y) had took
 stopped_before x y had took it = record {
@@ -125,25 +117,22 @@ stopped_before x y had took it = record {
 -- ---- a stage that was run
 
 -- what is told of a run by one worker without a tape
-pub ran_stage : {D : Type 0} (view : D → DiskView) (faults : D → ℕ) → OrderedIsTold → (graph : Flat) (cover : Owners) (M : Marking) (sessions : List (List Call)) (before : D) (closed : Closed)
-    (last : Store D) → HasRun view faults (cluster_of graph cover M []) (Off before) 1 sessions closed last → RanStage graph cover.owned M sessions closed
-ran_stage view faults ordered graph cover M sessions before closed last ran =
-    let G = rules_of graph in let C = cover.owned in let J = closed.history.entries in
+pub ran_alone : {D : Type 0} (view : D → DiskView) (faults : D → ℕ) → OrderedIsTold → (graph : Flat) (cover : Owners) (M : Marking) (sessions : List (List Call)) (before : D) (closed : Closed)
+    (last : Store D) → HasRun view faults (cluster_of graph cover M []) (Off before) 1 sessions closed last → RanAlone graph cover.owned M sessions closed
+ran_alone view faults ordered graph cover M sessions before closed last ran =
+    let J = closed.history.entries in
     let none : HasNoFault J = (off_stands view faults before J last ran.whole.stored).1 in record {
       opening = ran.whole.opening;
-      history = ordered G C M sessions J ran.whole.legal none ran.in_order (ran.calls.all none) ran.calls.no_other;
-      room = ran.whole.room;
-      legal = subst (λ (N : Marking). IsLegal G C N J) (sym ran.whole.opening) ran.whole.legal;
+      history = ordered (rules_of graph) cover.owned M sessions J ran.whole.legal none ran.in_order (ran.calls.all none) ran.calls.no_other;
+      run = run_on view faults graph cover M [] (Off before) closed last ran.whole;
       few = ran.whole.most_entries;
       no_other = ran.calls.no_other;
-      marks = ran.whole.marks ∙ ap (λ (N : Marking). marks_at G C (after G N J)) (sym ran.whole.opening);
-      waits = ran.whole.waits ∙ ap (λ (N : Marking). waits G.atoms (after G N J)) (sym ran.whole.opening);
     }
 
 abbrev stage_of : Spelled → Marking → Stage
 stage_of case M = record { case = case; opening = M }
 
-pub run_of_stage : (graph : Flat) (case : Spelled) (M : Marking) (closed : Closed) → IsFlattening case.nested graph → RanStage graph case.cover.owned M case.sessions closed
+pub run_of_stage : (graph : Flat) (case : Spelled) (M : Marking) (closed : Closed) → IsFlattening case.nested graph → RanAlone graph case.cover.owned M case.sessions closed
     → IsRunOfStage (stage_of case M) closed
 run_of_stage graph case M closed flat ran =
     let C = case.cover.owned in let J = closed.history.entries in
@@ -152,8 +141,8 @@ run_of_stage graph case M closed flat ran =
     ap (λ (G : Rules). after G closed.opening J) flat.related ∙ (ap (λ (N : Marking). after (rules_in case) N J) ran.opening ∙ ap (λ (K : List Entry). after (rules_in case) M K) told_it) in record {
       opening = ran.opening;
       history = told_it;
-      marks = ran.marks ∙ (ap (λ (N : Marking). marks_at (rules_of graph) C N) end ∙ ap (λ (G : Rules). marks_at G C (ending_of (stage_of case M))) flat.related);
-      waits = ran.waits ∙ (ap (λ (N : Marking). waits (length graph.names) N) end ∙ ap (λ (G : Rules). waits G.atoms (ending_of (stage_of case M))) flat.related);
+      marks = ran.run.marks ∙ (ap (λ (N : Marking). marks_at (rules_of graph) C N) end ∙ ap (λ (G : Rules). marks_at G C (ending_of (stage_of case M))) flat.related);
+      waits = ran.run.waits ∙ (ap (λ (N : Marking). waits (length graph.names) N) end ∙ ap (λ (G : Rules). waits G.atoms (ending_of (stage_of case M))) flat.related);
     }
 
 -- the report of what was run is that of the stage
@@ -163,36 +152,21 @@ report_is s closed ran =
     ∙ ap (λ (J : List Entry). report_text s.case.nested s.case.cover s.opening J) ran.history
 
 -- and of a legal history
-pub legal_stage : (case : Case) (M : Marking) (closed : Closed) → IsCase case → RanStage case.graph case.cover.owned M case.sessions closed
+pub legal_stage : (case : Case) (M : Marking) (closed : Closed) → IsCase case → RanAlone case.graph case.cover.owned M case.sessions closed
     → IsReport (report_of (stage_of (case_of case) M)) (length (history_of (stage_of (case_of case) M)))
 legal_stage case M closed is ran =
     let s = stage_of (case_of case) M in let J = closed.history.entries in
     let it = run_of_stage case.graph (case_of case) M closed is.flat ran in
-    let Room : Rules → Type 0 = λ G. HasRoom G.atoms closed.opening in
-    let report = report_of_run (case_of case) closed (length case.sessions) is.accepted_graph is.accepted_cover (subst Room is.flat.related ran.room) is.most_sessions
-    (subst (λ (G : Rules). IsLegal G case.cover.owned closed.opening J) is.flat.related ran.legal) ran.no_other ran.few in
+    let report = report_of_run case closed (length case.sessions) is ran.run is.most_sessions ran.no_other ran.few in
     subst (λ (l : List ℕ). IsReport l (length (history_of s))) (report_is s closed it)
     (subst (λ (K : List Entry). IsReport (report_text case.nested case.cover closed.opening J) (length K)) it.history report)
 
--- a report has a byte
-some_report : (N : Nest) (C : Owners) (M : Marking) (entries : List Entry) → 0 < length (report_text N C M entries)
-unfolding report_text
-some_report N C M entries =
-    let first = version_text N.version in
-    let feed : List ℕ = 10 ∷ [] in let ended = length-append first feed in let one : length feed ≡ 1 = refl in
-    let all = length-append (first ++ feed) (lines_text (behind_version N C M entries)) in omega (arith, ended, one, all)
-  where
-    behind_version : Nest → Owners → Marking → List Entry → List (List ℕ)
-    behind_version N C M entries =
-        let last : Marking = after (flat_relation N) M entries in
-        drop 1 (report_lines N C (of_atoms (parents_of N.nodes) (names_of N.nodes)) M entries (marks_at (flat_relation N) C.owned last) (waits (flat_relation N).atoms last))
-
--- so have those of stages
+-- the reports of stages have a byte
 some_reports : (case : Spelled) (M : Marking) (rest : List Spelled) → 0 < length (reports_of (stages_from case M rest))
 some_reports case M [] =
-    let s = stage_of case M in let some = some_report case.nested case.cover M (history_of s) in let all = length-append (report_of s) [] in omega (arith, some, all)
+    let s = stage_of case M in let some = some_bytes case.nested case.cover M (history_of s) in let all = length-append (report_of s) [] in omega (arith, some, all)
 some_reports case M (next ∷ rest) =
-    let s = stage_of case M in let some = some_report case.nested case.cover M (history_of s) in
+    let s = stage_of case M in let some = some_bytes case.nested case.cover M (history_of s) in
     let all = length-append (report_of s) (reports_of (stages_from next (carried (atoms_in case) (ending_of s) (atoms_in next) next.opening) rest)) in omega (arith, some, all)
 
 -- ---- how many of the stages were run
@@ -207,7 +181,7 @@ runs_none case M rest before had = record {
   within = omega arith;
   all = λ done. absurd (let wrong : NoMemory ≡ Done = done in cc);
   told = refl;
-  wrote = (record { count = 0; fewer = some_reports case M rest; wrote = appends_nothing had.bytes }, refl);
+  wrote = write_starved refl (record { count = 0; fewer = some_reports case M rest; wrote = appends_nothing had.bytes }) refl;
   reach = 0;
   far = omega arith;
   near = omega arith;
@@ -238,26 +212,18 @@ runs_one s rest closed before had took status n all ran legal wrote within cut f
 -- one, whose report was not written to its end
 pub runs_stopped : (s : Stage) (rest : List Stage) (closed : Closed) (before : Option Closed) (had took : Side) (status : Status) → IsRunOfStage s closed
     → IsReport (report_of s) (length (history_of s)) → Wrote Done (report_of s) status had took → status ≢ Done → RunsStages (s ∷ rest) before had took status (Some closed)
-runs_stopped s rest closed before had took WriteFault ran legal it other =
-    runs_one s rest closed before had took WriteFault it.0.count (λ done. absurd (let wrong : WriteFault ≡ Done = done in cc)) ran legal (stopped_before (report_of s) (reports_of rest) had took it.0, it.1, it.2) (let few = it.0.fewer in omega arith) (λ failed. it.0.fewer) it.0.wrote
-runs_stopped s rest closed before had took NoMemory ran legal it other =
-    runs_one s rest closed before had took NoMemory it.0.count (λ done. absurd (let wrong : NoMemory ≡ Done = done in cc)) ran legal (stopped_before (report_of s) (reports_of rest) had took it.0, it.1) (let few = it.0.fewer in omega arith) (λ failed. it.0.fewer) it.0.wrote
-runs_stopped s rest closed before had took Done ran legal it other = absurd (other it.0)
-runs_stopped s rest closed before had took Usage ran legal it other = absurd (other it.0)
-runs_stopped s rest closed before had took Refused ran legal it other = absurd (other it.0)
-runs_stopped s rest closed before had took ReadFault ran legal it other = absurd (other it.0)
-runs_stopped s rest closed before had took DiskFault ran legal it other = absurd (other it.0)
-runs_stopped s rest closed before had took Invalid ran legal it other = absurd (other it.0)
-runs_stopped s rest closed before had took Full ran legal it other = absurd (other it.0)
-runs_stopped s rest closed before had took TapeRefused ran legal it other = absurd (other it.0)
-runs_stopped s rest closed before had took DoorFault ran legal it other = absurd (other it.0)
+runs_stopped s rest closed before had took status ran legal (wrote_all is adds) other = absurd (other is)
+runs_stopped s rest closed before had took status ran legal (write_failed is it fails) other =
+    runs_one s rest closed before had took status it.count (λ done. absurd (other done)) ran legal (write_failed is (stopped_before (report_of s) (reports_of rest) had took it) fails) (let few = it.fewer in omega arith) (λ failed. it.fewer) it.wrote
+runs_stopped s rest closed before had took status ran legal (write_starved is it same) other =
+    runs_one s rest closed before had took status it.count (λ done. absurd (other done)) ran legal (write_starved is (stopped_before (report_of s) (reports_of rest) had took it) same) (let few = it.fewer in omega arith) (λ failed. it.fewer) it.wrote
 
 -- one, which is the last
 pub runs_last : (s : Stage) (closed : Closed) (before : Option Closed) (had took : Side) → IsRunOfStage s closed → IsReport (report_of s) (length (history_of s))
     → Adds (report_of s) had took → RunsStages (s ∷ []) before had took Done (Some closed)
 runs_last s closed before had took ran legal wrote =
     let same : report_of s ++ [] ≡ report_of s = append-nil (report_of s) in
-    runs_one s [] closed before had took Done (length (report_of s)) (λ done. refl) ran legal (refl, subst (λ (l : List ℕ). Adds l had took) (sym same) wrote) (omega arith)
+    runs_one s [] closed before had took Done (length (report_of s)) (λ done. refl) ran legal (wrote_all refl (subst (λ (l : List ℕ). Adds l had took) (sym same) wrote)) (omega arith)
     (λ failed. absurd (let wrong : Done ≡ WriteFault = failed in cc))
     (subst (λ (l : List ℕ). Appends had.bytes took.bytes l) (sym (take_all (length (report_of s)) (report_of s) (omega arith))) wrote.0)
 
@@ -267,14 +233,11 @@ pub runs_starved : (s : Stage) (case : Spelled) (M : Marking) (rest : List Spell
 runs_starved s case M rest closed before had took ran legal wrote =
     let x = report_of s in let y = reports_of (stages_from case M rest) in
     let full : take (length x) x ≡ x = take_all (length x) x (omega arith) in
-    runs_one s (stages_from case M rest) closed before had took NoMemory (length x) (λ done. absurd (let wrong : NoMemory ≡ Done = done in cc)) ran legal (
-      record {
-        count = length x;
-        fewer = let all = length-append x y in let some = some_reports case M rest in omega arith;
-        wrote = subst (λ (l : List ℕ). Appends had.bytes took.bytes l) (sym (take-append-le (length x) x y (omega arith) ∙ full)) wrote.0;
-      },
-      wrote.1,
-    )
+    runs_one s (stages_from case M rest) closed before had took NoMemory (length x) (λ done. absurd (let wrong : NoMemory ≡ Done = done in cc)) ran legal (write_starved refl (record {
+      count = length x;
+      fewer = let all = length-append x y in let some = some_reports case M rest in omega arith;
+      wrote = subst (λ (l : List ℕ). Appends had.bytes took.bytes l) (sym (take-append-le (length x) x y (omega arith) ∙ full)) wrote.0;
+    }) wrote.1)
     (omega arith) (λ failed. absurd (let wrong : NoMemory ≡ WriteFault = failed in cc)) (subst (λ (l : List ℕ). Appends had.bytes took.bytes l) (sym full) wrote.0)
 
 told_more : (s : Stage) (rest : List Stage) (closed : Closed) (before : Option Closed) (count : ℕ) (closed_run : Option Closed) → IsRunOfStage s closed
@@ -310,7 +273,7 @@ runs_more s rest closed before had mid took status closed_run ran legal wrote mo
 
 -- ---- the run of a case and those behind it
 
-module _ (case : Case) (M : Marking) (closed : Closed) (is : IsCase case) (ran : RanStage case.graph case.cover.owned M case.sessions closed) (before : Option Closed) where
+module _ (case : Case) (M : Marking) (closed : Closed) (is : IsCase case) (ran : RanAlone case.graph case.cover.owned M case.sessions closed) (before : Option Closed) where
   abbrev pub here : Stage
   here = stage_of (case_of case) M
 
@@ -324,6 +287,9 @@ module _ (case : Case) (M : Marking) (closed : Closed) (is : IsCase case) (ran :
       → Wrote Done (report_of here) status had took
   due_here had took status wrote = subst (λ (l : List ℕ). Wrote Done l status had took) (report_is here closed ran_here) wrote
 
+  adds_here : (had took : Side) → Wrote Done (report_text case.nested case.cover closed.opening closed.history.entries) Done had took → Adds (report_of here) had took
+  adds_here had took wrote = (wrote_at Done tt (due_here had took Done wrote) refl).1
+
   -- its report was not written to its end
   pub stops_here : (rest : List Spelled) (had took : Side) (status : Status) → Wrote Done (report_text case.nested case.cover closed.opening closed.history.entries) status had took
       → status ≢ Done → RunsStages (stages_from (case_of case) M rest) before had took status (Some closed)
@@ -334,7 +300,7 @@ module _ (case : Case) (M : Marking) (closed : Closed) (is : IsCase case) (ran :
   -- it is the last
   pub ends_here : (rest : List Spelled) (had took : Side) → rest ≡ [] → Wrote Done (report_text case.nested case.cover closed.opening closed.history.entries) Done had took
       → RunsStages (stages_from (case_of case) M rest) before had took Done (Some closed)
-  ends_here [] had took none wrote = runs_last here closed before had took ran_here legal_here (due_here had took Done wrote).1
+  ends_here [] had took none wrote = runs_last here closed before had took ran_here legal_here (adds_here had took wrote)
   ends_here (next ∷ rest) had took none wrote = absurd cc
 
   -- memory ran out behind it
@@ -343,7 +309,7 @@ module _ (case : Case) (M : Marking) (closed : Closed) (is : IsCase case) (ran :
       → RunsStages (stages_from (case_of case) M rest) before had took NoMemory (Some closed)
   starves_here rest next more had took same wrote =
       subst (λ (l : List Spelled). RunsStages (stages_from (case_of case) M l) before had took NoMemory (Some closed)) (sym same)
-      (runs_starved here next (carried (atoms_in (case_of case)) (ending_of here) (atoms_in next) next.opening) more closed before had took ran_here legal_here (due_here had took Done wrote).1)
+      (runs_starved here next (carried (atoms_in (case_of case)) (ending_of here) (atoms_in next) next.opening) more closed before had took ran_here legal_here (adds_here had took wrote))
 
   -- what is carried from its end
   pub carries_here : (next : Case) (N : Marking) → IsCase next
@@ -354,7 +320,7 @@ module _ (case : Case) (M : Marking) (closed : Closed) (is : IsCase case) (ran :
       let end : A ≡ ending_of here =
       ap (λ (G : Rules). after G closed.opening closed.history.entries) is.flat.related
       ∙ (ap (λ (O : Marking). after (rules_in (case_of case)) O closed.history.entries) ran_here.opening ∙ ap (λ (J : List Entry). after (rules_in (case_of case)) M J) ran_here.history) in
-      carries A ran.marks
+      carries A ran.run.marks
       ∙ (ap (λ (l : List (List ℕ)). carried l A next.graph.names next.opening) is.flat.names
       ∙ (ap (λ (l : List (List ℕ)). carried (atoms_in (case_of case)) A l next.opening) is_next.flat.names
       ∙ ap (λ (O : Marking). carried (atoms_in (case_of case)) O (atoms_in (case_of next)) next.opening) end))
@@ -367,77 +333,54 @@ module _ (case : Case) (M : Marking) (closed : Closed) (is : IsCase case) (ran :
   goes_on_here rest next more N had mid took status closed_run same begins wrote runs =
       let O = carried (atoms_in (case_of case)) (ending_of here) (atoms_in (case_of next)) next.opening in
       subst (λ (l : List Spelled). RunsStages (stages_from (case_of case) M l) before had took status closed_run) (sym same)
-      (runs_more here (stages_from (case_of next) O more) closed before had mid took status closed_run ran_here legal_here (due_here had mid Done wrote).1
+      (runs_more here (stages_from (case_of next) O more) closed before had mid took status closed_run ran_here legal_here (adds_here had mid wrote)
       (subst (λ (P : Marking). RunsStages (stages_from (case_of next) P more) (Some closed) mid took status closed_run) begins runs))
-
--- what an answer ends with
-pub ends_as_told : (stages : List Stage) (before : Option Closed) (had took : Side) (status : Status) (closed_run : Option Closed) (end : Answer)
-    → end ≡ record { status = status; closed = closed_run } → RunsStages stages before had took status closed_run → RunsStages stages before had took end.status end.closed
-ends_as_told stages before had took status closed_run end same runs =
-    subst (λ (e : Answer). RunsStages stages before had took e.status e.closed) (sym same) runs
 
 -- ---- answers
 
--- the lines are no stages
-pub stopped_stages : (bytes : List ℕ) (why : StageStop) (had took : Side) (status : Status) (end : Answer) → end ≡ record { status = status; closed = None }
-    → (why ≢ stage.NoMemory → stages_in bytes ≡ Err why) → IsStarved status had took ⊎ ((why ≢ stage.NoMemory) × Wrote Refused (stage_line why) status had took)
-    → AnswersStages bytes had took end.status end.closed
-stopped_stages bytes why had took status end is refuses told = subst (λ (e : Answer). AnswersStages bytes had took e.status e.closed) (sym is) (stopped told)
-  where
-    stopped : IsStarved status had took ⊎ ((why ≢ stage.NoMemory) × Wrote Refused (stage_line why) status had took) → AnswersStages bytes had took status None
-    stopped (inl starved) = inl (refl, inl starved)
-    stopped (inr it) = inl (refl, inr (record { why = why; refuses = refuses it.0; named = it.0; line = it.1 }))
-
--- they are, and were run
+-- the lines are stages, and were run
 pub told_stages : (bytes : List ℕ) (case : Spelled) (rest : List Spelled) (had took : Side) (status : Status) (closed_run : Option Closed)
-    → stages_in bytes ≡ Ok (case ∷ rest) → RunsStages (stages_from case case.opening rest) None had took status closed_run → AnswersStages bytes had took status closed_run
-told_stages bytes case rest had took status closed_run spelled runs = inr (record {
-  stages = stages_from case case.opening rest;
-  spelled = spelled ∙ ap Ok (sym (cases_from case case.opening rest));
-  first = begins_as_written case rest;
-  next = goes_on_from case case.opening rest;
-  runs = runs;
-})
+    → stages_in bytes ≡ Ok (case ∷ rest) → RunsStages (stages_from case case.opening rest) None had took status closed_run
+    → AnswersPlain Adapt bytes had took (record { 0 = status; 1 = closed_run; 2 = None })
+told_stages bytes case rest had took status closed_run spelled runs = bytes_told (
+  refl,
+  record {
+    stages = stages_from case case.opening rest;
+    spelled = spelled ∙ ap Ok (sym (cases_from case case.opening rest));
+    first = begins_as_written case rest;
+    next = goes_on_from case case.opening rest;
+    runs = runs;
+  },
+)
 
 -- ---- how it ended
-
-pub stages_ended : (bytes : List ℕ) (had took : Side) (status : Status) (closed_run : Option Closed) → AnswersStages bytes had took status closed_run → HasEnded status had took
-stages_ended bytes had took status closed_run (inl (none, inl starved)) = ended_silent (inl starved.0) starved.1
-stages_ended bytes had took status closed_run (inl (none, inr it)) = ended_with Refused (stage_line it.why) tt it.line
-stages_ended bytes had took status closed_run (inr it) = ended_with Done (reports_of it.stages) tt it.runs.wrote
-
--- what the status says
-pub stages_say : (before after : DiskView) (left : Option (List ℕ)) (bytes : List ℕ) (had took : Side) (status : Status) (closed_run : Option Closed) → WereLeft left bytes
-    → AnswersStages bytes had took status closed_run → SaysAt (Some Adapt) before after left had took closed_run status
-stages_say before after left bytes had took status closed_run read (inl (none, inl starved)) = by_starved (SaysAt (Some Adapt) before after left had took closed_run) tt status had took starved
-stages_say before after left bytes had took status closed_run read (inl (none, inr it)) =
-    by_wrote (SaysAt (Some Adapt) before after left had took closed_run) tt tt Refused (stage_line it.why) status had took it.line
-    (λ adds. (Adapt, refl, inr (bytes, read, (it.why, it.refuses, it.named, adds.0))))
-stages_say before after left bytes had took status closed_run read (inr it) = elim (seen Done (reports_of it.stages) status had took it.runs.wrote) [
-  | inl e ↦ subst (SaysAt (Some Adapt) before after left had took closed_run) (sym e.0) (record {
-    stages = it.stages;
-    wrote = e.1.0;
-    legal = subst (λ (l : List Stage). All (λ (s : Stage). IsReport (report_of s) (length (history_of s))) l)
-        (take_all it.runs.count it.stages (let all = it.runs.all e.0 in omega arith)) it.runs.legal;
-  })
-  | inr other ↦ elim other [
-    | inl e ↦ subst (SaysAt (Some Adapt) before after left had took closed_run) (sym e.0) tt
-    | inr e ↦ subst (SaysAt (Some Adapt) before after left had took closed_run) (sym e.0) tt
-  ]
-]
 
 -- what an input and an output that don't fail end with
 pub starved_stages : (r : Result (List Spelled) StageStop) (status : Status) → status ≡ NoMemory → EndsStages r status
 starved_stages (Err why) status e = inr e
 starved_stages (Ok cases) status e = inr e
 
-pub stages_end : (bytes : List ℕ) (had took : Side) (status : Status) (closed_run : Option Closed) → length bytes ≤ 16777216 → (status ≡ WriteFault → ⊥)
-    → AnswersStages bytes had took status closed_run → IsAnsweredStages bytes status
-stages_end bytes had took status closed_run few writes it = record { long = λ more. absurd (omega (arith, more, few)); short = λ _. short it }
+pub stages_ended : (before after : DiskView) (left : Option (List ℕ)) (bytes : List ℕ) (had took : Side) (status : Status) (closed_run : Option Closed) → length bytes ≤ 16777216
+    → TellsStages bytes had took status closed_run → IsEnded ⊥ (SaysAt (Some (Read Adapt)) before after left had took closed_run) (IsAnsweredStages bytes status) status had took
+stages_ended before after left bytes had took status closed_run few it = record {
+  writes = ended.writes;
+  reads = ended.reads;
+  says = says it.runs.wrote;
+  ends = ended.ends;
+}
   where
-    short : AnswersStages bytes had took status closed_run → EndsStages (stages_in bytes) status
-    short (inl (none, inl starved)) = starved_stages (stages_in bytes) status starved.0
-    short (inl (none, inr stop)) =
-        subst (λ (r : Result (List Spelled) StageStop). EndsStages r status) (sym stop.refuses) (due_or Refused (stage_line stop.why) status had took writes stop.line)
-    short (inr runs) =
-        subst (λ (r : Result (List Spelled) StageStop). EndsStages r status) (sym runs.spelled) (due_or Done (reports_of runs.stages) status had took writes runs.runs.wrote)
+    ended : IsEnded ⊥ (λ s. ⊤) (IsAnsweredStages bytes status) status had took
+    ended = ended_with ⊥ (λ s. ⊤) (IsAnsweredStages bytes status) tt tt tt it.runs.wrote (λ adds. tt) (λ _ _ or. record {
+      long = λ more. absurd (omega (arith, more, few));
+      short = λ _. subst (λ (r : Result (List Spelled) StageStop). EndsStages r status) (sym it.spelled) or;
+    })
+
+    says : Wrote Done (reports_of it.stages) status had took → SaysAt (Some (Read Adapt)) before after left had took closed_run status
+    says (wrote_all is adds) = subst (SaysAt (Some (Read Adapt)) before after left had took closed_run) (sym is) (record {
+      stages = it.stages;
+      wrote = adds.0;
+      legal = subst (λ (l : List Stage). All (λ (s : Stage). IsReport (report_of s) (length (history_of s))) l)
+          (take_all it.runs.count it.stages (let all = it.runs.all is in omega arith)) it.runs.legal;
+    })
+    says (write_failed is stopped fails) = subst (SaysAt (Some (Read Adapt)) before after left had took closed_run) (sym is) tt
+    says (write_starved is stopped same) = subst (SaysAt (Some (Read Adapt)) before after left had took closed_run) (sym is) tt

@@ -1,105 +1,299 @@
 -- What follows from what the program answers, whatever the command.
-use Rattle.std.proofs.Common.{◌≡◌, ◌≢◌, ◌⊎◌, ℕ, ◌<◌, ◌≤◌, arith, Bool, true, false, List, [], length, codes, Option, Some, None, Result, Ok, Err, IfSome, inl, inr, refl, sym, subst, ◌∙◌}
+use Rattle.std.proofs.Common.{◌≡◌, ◌≢◌, ◌⊎◌, ℕ, ◌<◌, ◌≤◌, ◌+◌, arith, Bool, true, false, List, [], length, codes, Option, Some, None, Result, Ok, Err, IfSome, IsSome, inl, inr, refl, sym, ap, subst, ◌∙◌}
+use Rattle.std.specs.Prelude.{⊤}
 use Rattle.dcr_base.specs.Count.{Rose}
 use Rattle.dcr_base.specs.Disk.{DiskView}
+use Rattle.dcr_base.specs.Door.{Doors}
 use Rattle.dcr_base.specs.Side.{Side}
 use Rattle.dcr_base.specs.declared.reading.ReadStop.{ReadStop}
 use Rattle.dcr_base.specs.declared.reading.ReadStop.TheVariants as read
 use Rattle.dcr_base.specs.declared.status.Status.{Status}
 use Rattle.dcr_base.specs.declared.status.Status.TheVariants.{Done, Usage, Refused, ReadFault, WriteFault, NoMemory, DiskFault, DoorFault}
 use Rattle.dcr_journal.specs.declared.closed.Closed.{Closed}
+use Rattle.dcr_node.specs.WorldState.{WorldState}
 use Rattle.dcr_tape.specs.Laws.{NoCause, OneList}
 use Rattle.dcr_serving.specs.declared.end.LinkEnd.{LinkEnd}
 use Rattle.dcr_engine.specs.Laws.{OrderedIsTold}
 use Rattle.dcr_json.specs.Judged.{Spelled}
-use Rattle.dcr_json.specs.declared.case.CaseStop.TheVariants as stop
 use Rattle.dcr_adapt.specs.Stages.{stages_in}
 use Rattle.dcr_log.specs.Records.{first_bad}
 use Rattle.dcr_replay.specs.Laws.{ValidIsReport}
 use Rattle.dcr_replay.specs.LeastWrong.{LeastIsTold}
 use Rattle.dcr_replay.specs.OneVerdict.{VerdictIsOne}
+use Rattle.dcr_replay.specs.declared.verdict.Verdict.{Verdict}
+use Rattle.dcr_replay.specs.declared.verdict.Verdict.TheVariants as verdict
 use Rattle.dcr_roles.specs.Accepted.{case_accepted}
 use Rattle.dcr_roles.specs.Laws.{AcceptedAreTheFormats}
+use Rattle.dcr_roles.specs.declared.accepted.Accepted.{Accepted}
 use Rattle.dcr_roles.specs.declared.accepted.AcceptStop.{AcceptStop}
-use Rattle.dcr_app.specs.Answers.{Answers, AnswersBytes, AnswersCase, EndsAs, EndsRun, EndsServing, IsAnswered, IsAnsweredCase, IsConverse, IsDoneThroughout, IsHeadline, IsOr, IsServing, IsToldByOne, IsUntold, Says, TellsRun, is_stored}
-use Rattle.dcr_app.specs.Command.{IsReading}
+use Rattle.dcr_app.specs.Adapted.{EndsStages}
+use Rattle.dcr_app.specs.Answers.{Answers, AnswersBytes, AnswersPlain, AnswersWith, EndsAs, EndsRun, Executed, FromInput, IsAnswered, IsAnsweredCase, IsConverse, IsDoneThroughout, IsHeadline, IsOr, IsTask, IsTaskOf, IsToExecute, IsToldByOne, RefusesBy, RefusesBytes, Says, TellsBytes, TellsCase, TellsNodes, TellsRun, WasRead, verdict_status, bytes_refused, bytes_starved, bytes_told, has_failed, input_long, input_unread, input_whole, is_stored, is_tape_refused, refuses_bytes, refuses_long}
+use Rattle.dcr_app.specs.Loaded.{AnswersLoad}
 use Rattle.dcr_app.specs.Logged.{case_before_log, rows_in}
-use Rattle.dcr_app.specs.Outside.{CountsWhere, FromInput, IsUnread, LeavesInput, WereLeft, input_long, input_unread, input_whole, limit_in, most_bytes}
-use Rattle.dcr_app.specs.Refusal.{case_line}
+use Rattle.dcr_app.specs.Outside.{CountsWhere, IsUnread, LeavesInput, TookAtMost, WereLeft, Wrote, limit_in, most_bytes, wrote_all, write_failed, write_starved}
 use Rattle.dcr_app.specs.Stored.{LeavesDisk}
-use Rattle.dcr_app.specs.Telling.{LeavesDoor, Telling, by_workers, over_links}
-use Rattle.dcr_base.specs.Door.{Doors}
+use Rattle.dcr_app.specs.Telling.{IsServing, LeavesDoor, LeavesFor, told_by}
+use Rattle.dcr_app.specs.declared.answer.Answer.{Answer}
 use Rattle.dcr_app.specs.declared.app.End.{End}
+use Rattle.dcr_app.specs.declared.app.Task.{Task}
+use Rattle.dcr_app.specs.declared.app.Task.TheVariants as task
 use Rattle.dcr_app.specs.declared.command.Command.{Command}
-use Rattle.dcr_app.specs.declared.command.Command.TheVariants.{Run, Serve, Replay, Load, Nodes, Conform, Adapt}
-use Rattle.dcr_app.proofs.AdaptLemmas.{stages_end, stages_ended, stages_say, starved_stages}
-use Rattle.dcr_app.proofs.ApartLemmas.{apart_ended, apart_ends, apart_says}
-use Rattle.dcr_app.proofs.CaseLemmas.{case_ended, case_ends, case_says}
-use Rattle.dcr_app.proofs.ConformLemmas.{log_ended, log_ends, log_says, long_log, starved_log}
-use Rattle.dcr_app.proofs.LoadLemmas.{load_ended, load_ends, load_says}
-use Rattle.dcr_app.proofs.OutsideLemmas.{HasEnded, NotRead, by_wrote, due_or, ended_counted, ended_with, of_left, seen, uncounted}
-use Rattle.dcr_app.proofs.ReplayLemmas.{report_ended, report_ends, report_says}
+use Rattle.dcr_app.specs.declared.command.Command.TheVariants.{Load, Read}
+use Rattle.dcr_app.specs.declared.command.Reading.{Reading}
+use Rattle.dcr_app.specs.declared.command.Reading.TheVariants.{Execute, Replay, Nodes, Conform, Adapt}
+use Rattle.dcr_app.specs.declared.command.Way.{Way}
+use Rattle.dcr_app.specs.declared.command.Way.TheVariants.{Run, Serve}
+use Rattle.dcr_app.proofs.AdaptLemmas.{stages_ended, starved_stages}
+use Rattle.dcr_app.proofs.ApartLemmas.{apart_ended}
+use Rattle.dcr_app.proofs.CaseLemmas.{case_ended}
+use Rattle.dcr_app.proofs.DueLemmas.{by_due}
+use Rattle.dcr_app.proofs.ConformLemmas.{log_ended, long_log, refused_log, starved_log}
+use Rattle.dcr_app.proofs.LoadLemmas.{load_ended}
+use Rattle.dcr_app.proofs.OutsideLemmas.{IsEnded, by_wrote, counted, ended_silent, ended_starved, ended_with, of_left, uncounted}
+use Rattle.dcr_app.proofs.ReplayLemmas.{report_ended}
 use Rattle.dcr_app.proofs.RunLemmas.{cases_are_accepted, done_throughout, tells_left, told_by_one, too_long}
 use Rattle.dcr_app.proofs.SaysLemmas.{SaysAt, says_all}
+use Rattle.dcr_app.proofs.TapeLemmas.{disk_left, uncalled_by}
 
--- ---- an input
+-- ---- refusals
 
--- one that was not read to its end
-pub unread_told : (stop_read : ReadStop) (limit : ℕ) (left : Option (List ℕ)) (has_ended : Type 0) (had took : Side) (status : Status) (Untold : Type 0) (Answered : List ℕ → Type 0) → Untold
-    → (stop_read ≡ read.TooLong → IfSome left (λ bytes. limit < length bytes)) → IsUnread stop_read status had took → FromInput limit left has_ended had took status Untold Answered
-unread_told read.TooLong limit left has_ended had took status Untold Answered untold more it = input_long untold (more refl) it.1
-unread_told read.ReadFault limit left has_ended had took status Untold Answered untold more it = input_unread untold (inl it.0) it.1
-unread_told read.NoMemory limit left has_ended had took status Untold Answered untold more it = input_unread untold (inr it.0) it.1
+-- a refusal of the bytes of an input
+pub refused_by : (reading : Reading) (bytes line : List ℕ) (had took : Side) (is_one : Type 0) (answer : Answer) → RefusesBy is_one line had took answer → (is_one → RefusesBytes reading bytes line)
+    → AnswersPlain reading bytes had took answer
+refused_by reading bytes line had took is_one answer (none, inl starved) refuses = bytes_starved none starved
+refused_by reading bytes line had took is_one answer (none, inr it) refuses = bytes_refused none (record { line = line; refuses = refuses it.0; wrote = it.1 })
 
-abbrev NotCalled : Status → Type 0
-NotCalled DiskFault = ⊥
-NotCalled Done = ⊥
-NotCalled status = Unit {0}
+-- ---- where nothing fails
 
-unread_status : (stop_read : ReadStop) (status : Status) (had took : Side) → IsUnread stop_read status had took → NotCalled status
-unread_status read.TooLong status had took it = by_wrote NotCalled tt tt Refused (case_line stop.TooLong) status had took it.1 (λ _. tt)
-unread_status read.ReadFault status had took it = subst NotCalled (sym it.0) tt
-unread_status read.NoMemory status had took it = subst NotCalled (sym it.0) tt
+starved_case : (IsDone : Status → Type 0) (store : Bool) (disk : DiskView) (result : Result Spelled AcceptStop) (status : Status) → IsDone status → status ≡ NoMemory
+    → IsAnsweredCase IsDone store disk result status
+starved_case IsDone store disk (Err why) status done is = inr is
+starved_case IsDone false disk (Ok case) status done is = done
+starved_case IsDone true disk (Ok case) status done is = λ told. record { empty = λ _. done; goes_on = λ _ _ _ _. done; refused = λ _ _ _. inr is }
 
-pub unread_uncalled : (stop_read : ReadStop) (status : Status) (had took : Side) → IsUnread stop_read status had took → status ≢ DiskFault
-unread_uncalled stop_read status had took it is = elim (subst NotCalled is (unread_status stop_read status had took it)) [ ]
+starved_run : (way : Way) (status : Status) → status ≡ NoMemory → EndsRun way status
+starved_run (Run workers) status is = inr is
+starved_run (Serve sessions workers) status is = inr (inr is)
 
-pub unread_undone : (stop_read : ReadStop) (status : Status) (had took : Side) → IsUnread stop_read status had took → status ≢ Done
-unread_undone stop_read status had took it is = elim (subst NotCalled is (unread_status stop_read status had took it)) [ ]
+-- want of memory answers each input
+starved_answer : (reading : Reading) (disk : DiskView) (bytes : List ℕ) (status : Status) → status ≡ NoMemory → IsAnswered reading disk bytes status
+starved_answer (Execute way store) disk bytes status is = starved_case (EndsRun way) store disk (case_accepted bytes) status (starved_run way status is) is
+starved_answer Replay disk bytes status is = (λ more. inr is, λ few verdict found. inr is)
+starved_answer (Nodes number) disk bytes status is = starved_case (IsOr Done) false disk (case_accepted bytes) status (inr is) is
+starved_answer Conform disk bytes status is = starved_log (case_before_log bytes) (first_bad (rows_in bytes)) status is
+starved_answer Adapt disk bytes status is = record { long = λ more. inr is; short = λ few. starved_stages (stages_in bytes) status is }
 
--- a read failed exactly where it is told
-pub unread_counted : (stop_read : ReadStop) (status : Status) (had took : Side) (old new : ℕ) → IsUnread stop_read status had took → CountsWhere (stop_read ≡ read.ReadFault) old new
-    → CountsWhere (status ≡ ReadFault) old new
-unread_counted read.ReadFault status had took old new it counts = (counts.0, λ _. counts.1 refl, λ never. absurd (never it.0))
-unread_counted read.TooLong status had took old new it counts =
-    let fine : NotRead status = by_wrote NotRead tt tt Refused (case_line stop.TooLong) status had took it.1 (λ _. tt) in
-    (counts.0, λ is. elim (subst NotRead is fine) [ ], λ _. counts.2 (λ is. let wrong : read.TooLong ≡ read.ReadFault = is in cc))
-unread_counted read.NoMemory status had took old new it counts =
-    (counts.0, λ is. absurd (let wrong : NoMemory ≡ ReadFault = sym it.0 ∙ is in cc), λ _. counts.2 (λ is. let wrong : read.NoMemory ≡ read.ReadFault = is in cc))
+-- an input that is too long is refused
+long_answer : (reading : Reading) (disk : DiskView) (bytes : List ℕ) (status : Status) → most_bytes reading < length bytes → IsOr Refused status → IsAnswered reading disk bytes status
+long_answer (Execute way store) disk bytes status more or = subst (λ r. IsAnsweredCase (EndsRun way) store disk r status) (sym (too_long bytes more)) or
+long_answer Replay disk bytes status more or = (λ _. or, λ few. absurd (omega (arith, more, few)))
+long_answer (Nodes number) disk bytes status more or = subst (λ r. IsAnsweredCase (IsOr Done) false disk r status) (sym (too_long bytes more)) or
+long_answer Conform disk bytes status more or = long_log bytes status more or
+long_answer Adapt disk bytes status more or = record { long = λ _. or; short = λ few. absurd (omega (arith, more, few)) }
 
--- ---- the door
+-- and so are bytes of which a refusal holds
+refused_answer : (reading : Reading) (disk : DiskView) (bytes line : List ℕ) (status : Status) → length bytes ≤ most_bytes reading → RefusesBytes reading bytes line → IsOr Refused status
+    → IsAnswered reading disk bytes status
+refused_answer (Execute way store) disk bytes line status few it or = subst (λ r. IsAnsweredCase (EndsRun way) store disk r status) (sym it.1) or
+refused_answer Replay disk bytes line status few it or = elim it [ ]
+refused_answer (Nodes number) disk bytes line status few it or = subst (λ r. IsAnsweredCase (IsOr Done) false disk r status) (sym it.1) or
+refused_answer Conform disk bytes line status few it or = refused_log bytes it.0 status it.1 or
+refused_answer Adapt disk bytes line status few it or =
+    record { long = λ more. absurd (omega (arith, more, few)); short = λ _. subst (λ (r : Result (List Spelled) _). EndsStages r status) (sym it.1) or }
 
--- it was not asked
-pub not_asked : {B L R : Type 0} (doors : Doors B L R) (command : Option Command) (door : B) (ends : List (LinkEnd L R)) (status : Status) → ends ≡ [] → LeavesDoor doors command None door door ends status
-not_asked doors None door ends status none = (refl, none)
-not_asked doors (Some (Run workers store)) door ends status none = (refl, none)
-not_asked doors (Some (Serve sessions workers store)) door ends status none = (refl, none)
-not_asked doors (Some Replay) door ends status none = (refl, none)
-not_asked doors (Some (Load number)) door ends status none = (refl, none)
-not_asked doors (Some (Nodes number)) door ends status none = (refl, none)
-not_asked doors (Some Conform) door ends status none = (refl, none)
-not_asked doors (Some Adapt) door ends status none = (refl, none)
+-- ---- what was read
+
+-- statuses that say that a read failed, and that the input was read to its end and answered
+abbrev IsOther : Status → Type 0
+IsOther ReadFault = ⊥
+IsOther Done = ⊥
+IsOther status = Unit {0}
+
+abbrev IsRead : Status → Type 0
+IsRead ReadFault = ⊥
+IsRead status = Unit {0}
+
+-- an input that was not read to its end
+pub unread_told : (stop_read : ReadStop) (reading : Reading) (left : Option (List ℕ)) (has_ended : Type 0) (had took : Side) (status : Status) (IsNone : Type 0) (Answered : List ℕ → Type 0) → IsNone
+    → (stop_read ≡ read.TooLong → IfSome left (λ bytes. most_bytes reading < length bytes)) → IsUnread stop_read status had took → FromInput reading left has_ended had took status IsNone Answered
+unread_told read.TooLong reading left has_ended had took status IsNone Answered none more it = input_long none (more refl) it.1
+unread_told read.ReadFault reading left has_ended had took status IsNone Answered none more it = input_unread none (inl it.0) it.1
+unread_told read.NoMemory reading left has_ended had took status IsNone Answered none more it = input_unread none (inr it.0) it.1
+
+pub unread_leaves : (stop_read : ReadStop) (limit : ℕ) (left rest : Side) (has_ended : Type 0) (status : Status) (had took : Side) → TookAtMost (limit + 1) left.bytes rest.bytes
+    → CountsWhere (stop_read ≡ read.ReadFault) left.faults rest.faults → IsUnread stop_read status had took → LeavesInput (Some limit) left rest has_ended status
+unread_leaves read.TooLong limit left rest has_ended status had took most counts it =
+    let other = by_wrote IsOther tt tt it.1 (λ _. tt) in
+    (most, λ is. elim (subst IsOther is other) [ ], uncounted (λ is. subst IsOther is other) (counts.2 (λ is. let wrong : read.TooLong ≡ read.ReadFault = is in cc)))
+unread_leaves read.ReadFault limit left rest has_ended status had took most counts it =
+    (most, λ is. absurd (let wrong : ReadFault ≡ Done = sym it.0 ∙ is in cc), counted it.0 counts.0 (counts.1 refl))
+unread_leaves read.NoMemory limit left rest has_ended status had took most counts it =
+    (most, λ is. absurd (let wrong : NoMemory ≡ Done = sym it.0 ∙ is in cc), uncounted (λ is. let wrong : NoMemory ≡ ReadFault = sym it.0 ∙ is in cc) (counts.2 (λ is. let wrong : read.NoMemory ≡ read.ReadFault = is in cc)))
+
+-- bytes that were read are answered with no status that says that a read failed
+plain_read : (reading : Reading) (bytes : List ℕ) (had took : Side) (answer : Answer) → AnswersPlain reading bytes had took answer → IsRead answer.0
+plain_read reading bytes had took answer (bytes_starved none starved) = subst IsRead (sym starved.0) tt
+plain_read reading bytes had took answer (bytes_refused none it) = by_wrote IsRead tt tt it.wrote (λ _. tt)
+plain_read (Execute way store) bytes had took answer (bytes_told it) = elim it.1 [ ]
+plain_read Replay bytes had took answer (bytes_told it) = by_wrote IsRead tt tt it.1.line (λ _. of_verdict it.1.found)
+  where
+    of_verdict : (v : Verdict) → IsRead (verdict_status v)
+    of_verdict (verdict.Valid count) = tt
+    of_verdict (verdict.Invalid line kind) = tt
+plain_read (Nodes number) bytes had took answer (bytes_told it) = of_run answer.1 answer.2 it
+  where
+    of_run : (closed_run : Option Closed) (world : Option WorldState) → TellsNodes bytes had took answer.0 closed_run world → IsRead answer.0
+    of_run (Some closed) (Some world) it = by_wrote IsRead tt tt it.report (λ _. tt)
+    of_run None world it = elim it [ ]
+    of_run (Some closed) None it = elim it [ ]
+plain_read Conform bytes had took answer (bytes_told it) = by_wrote IsRead tt tt it.1.wrote (λ _. tt)
+plain_read Adapt bytes had took answer (bytes_told it) = by_wrote IsRead tt tt it.1.runs.wrote (λ _. tt)
+
+-- what is left to do of the bytes of a whole input
+pub whole_task : (reading : Reading) (left rest : Side) (has_ended : Type 0) (bytes : List ℕ) (had took : Side) (what : Task) → WasRead reading left rest has_ended bytes → IsTaskOf reading bytes had took what
+    → IsTask (Some (Read reading)) left rest has_ended had took what
+whole_task reading left rest has_ended bytes had took (task.Answered answer) was it =
+    (input_whole bytes was.were_left was.few was.ended it, was.leaves answer.0 (λ is. subst IsRead is (plain_read reading bytes had took answer it)))
+whole_task reading left rest has_ended bytes had took (task.Execute way store accepted) was it =
+    (ap (λ (r : Reading). Some (Read r)) it.asked, (bytes, subst (λ (r : Reading). WasRead r left rest has_ended bytes) it.asked was, subst (λ (r : Reading). IsToExecute r bytes had took way store accepted) it.asked it))
+
+-- ---- a command that is answered before a case is executed
+
+module _ (had took : Side) (left : Option (List ℕ)) (has_ended : Type 0) (status : Status) (closed_run : Option Closed) (world : Option WorldState) where
+  abbrev Plain : Option Command → Type 0
+  Plain command = AnswersWith (λ way store bytes. ⊥) command left has_ended had took status closed_run world
+
+  module _ (OfCase : Way → Bool → List ℕ → Type 0) where
+    more_told : (reading : Reading) (bytes : List ℕ) → AnswersBytes (λ way store bytes. ⊥) reading bytes had took status closed_run world → AnswersBytes OfCase reading bytes had took status closed_run world
+    more_told reading bytes (bytes_starved none starved) = bytes_starved none starved
+    more_told reading bytes (bytes_refused none it) = bytes_refused none it
+    more_told (Execute way store) bytes (bytes_told it) = elim it.1 [ ]
+    more_told Replay bytes (bytes_told it) = bytes_told it
+    more_told (Nodes number) bytes (bytes_told it) = bytes_told it
+    more_told Conform bytes (bytes_told it) = bytes_told it
+    more_told Adapt bytes (bytes_told it) = bytes_told it
+
+    pub more_answered : (command : Option Command) → Plain command → AnswersWith OfCase command left has_ended had took status closed_run world
+    more_answered None it = it
+    more_answered (Some (Load number)) it = it
+    more_answered (Some (Read reading)) (input_unread none why nothing) = input_unread none why nothing
+    more_answered (Some (Read reading)) (input_long none more line) = input_long none more line
+    more_answered (Some (Read reading)) (input_whole bytes read few ended it) = input_whole bytes read few ended (more_told reading bytes it)
+
+  abbrev IsUncalled : Status → Type 0
+  IsUncalled DiskFault = ⊥
+  IsUncalled status = Unit {0}
+
+  -- of a case that is to be executed no run is told then, and no disk that failed
+  none_executed : (way : Way) (store : Bool) → Plain (Some (Read (Execute way store))) → (closed_run ≡ None) × IsUncalled status
+  none_executed way store (input_unread none (inl e) nothing) = (none.0, subst IsUncalled (sym e) tt)
+  none_executed way store (input_unread none (inr e) nothing) = (none.0, subst IsUncalled (sym e) tt)
+  none_executed way store (input_long none more line) = (none.0, by_wrote IsUncalled tt tt line (λ _. tt))
+  none_executed way store (input_whole bytes read few ended (bytes_starved none starved)) = (none.0, subst IsUncalled (sym starved.0) tt)
+  none_executed way store (input_whole bytes read few ended (bytes_refused none it)) = (none.0, by_wrote IsUncalled tt tt it.wrote (λ _. tt))
+  none_executed way store (input_whole bytes read few ended (bytes_told it)) = elim it.1 [ ]
+
+  -- the disk is as it was
+  pub disk_plain : {D : Type 0} (view : D → DiskView) (faults : D → ℕ) (disk after : D) → after ≡ disk → (command : Option Command) → Plain command
+      → LeavesDisk (is_stored command) view faults left disk after status closed_run
+  disk_plain view faults disk after same None it = same
+  disk_plain view faults disk after same (Some (Load number)) it = same
+  disk_plain view faults disk after same (Some (Read (Execute way store))) it =
+      uncalled_by store view faults left disk after status closed_run same (λ is. subst IsUncalled is (none_executed way store it).1)
+  disk_plain view faults disk after same (Some (Read Replay)) it = same
+  disk_plain view faults disk after same (Some (Read (Nodes number))) it = same
+  disk_plain view faults disk after same (Some (Read Conform)) it = same
+  disk_plain view faults disk after same (Some (Read Adapt)) it = same
+
+  -- and so is the door
+  pub door_plain : {B L R : Type 0} (doors : Doors B L R) (door : B) (ends : List (LinkEnd L R)) → ends ≡ [] → (command : Option Command) → Plain command
+      → LeavesDoor doors command closed_run door door ends status
+  door_plain doors door ends none None it = (refl, none)
+  door_plain doors door ends none (Some (Load number)) it = (refl, none)
+  door_plain doors door ends none (Some (Read (Execute (Run workers) store))) it = (refl, none)
+  door_plain doors door ends none (Some (Read (Execute (Serve sessions workers) store))) it =
+      subst (λ (c : Option Closed). LeavesFor doors (Some sessions) c door door ends status) (sym (none_executed (Serve sessions workers) store it).0) (refl, none)
+  door_plain doors door ends none (Some (Read Replay)) it = (refl, none)
+  door_plain doors door ends none (Some (Read (Nodes number))) it = (refl, none)
+  door_plain doors door ends none (Some (Read Conform)) it = (refl, none)
+  door_plain doors door ends none (Some (Read Adapt)) it = (refl, none)
+
+-- ---- what is left to do
+
+pub usage_task : (command : Option Command) (left : Side) (has_ended : Type 0) (had took : Side) (status : Status) → None ≡ command → (status ≡ Usage) ⊎ (status ≡ WriteFault)
+    → Wrote Usage (codes "usage\n") status had took → IsTask command left left has_ended had took (task.Answered (record { 0 = status; 1 = None; 2 = None }))
+usage_task command left has_ended had took status is either wrote =
+    subst (λ (c : Option Command). IsTask c left left has_ended had took (task.Answered (record { 0 = status; 1 = None; 2 = None }))) is
+    (((refl, refl), (starved either, wrote)), (refl, λ e. subst IsRead e (fine either)))
+  where
+    fine : (status ≡ Usage) ⊎ (status ≡ WriteFault) → IsRead status
+    fine (inl e) = subst IsRead (sym e) tt
+    fine (inr e) = subst IsRead (sym e) tt
+
+    starved : (status ≡ Usage) ⊎ (status ≡ WriteFault) → status ≢ NoMemory
+    starved (inl e) is = let wrong : Usage ≡ NoMemory = sym e ∙ is in cc
+    starved (inr e) is = let wrong : WriteFault ≡ NoMemory = sym e ∙ is in cc
+
+pub load_task : (command : Option Command) (number : ℕ) (left : Side) (has_ended : Type 0) (had took : Side) (answer : Answer) → Some (Load number) ≡ command
+    → AnswersLoad number had took answer.0 answer.1 → answer.2 ≡ None → IsTask command left left has_ended had took (task.Answered answer)
+load_task command number left has_ended had took answer is it world =
+    subst (λ (c : Option Command). IsTask c left left has_ended had took (task.Answered answer)) is ((world, it), (refl, λ e. subst IsRead e (fine answer.1 it)))
+  where
+    fine : (closed_run : Option Closed) → AnswersLoad number had took answer.0 closed_run → IsRead answer.0
+    fine None it = subst IsRead (sym it.0) tt
+    fine (Some closed) it = by_wrote IsRead tt tt it.wrote (λ _. tt)
+
+-- a command that is answered
+pub task_answered : (command : Option Command) (left rest : Side) (has_ended : Type 0) (had took : Side) (what : Task) (answer : Answer) → what ≡ task.Answered answer
+    → IsTask command left rest has_ended had took what → AnswersWith (λ way store bytes. ⊥) command left.bytes has_ended had took answer.0 answer.1 answer.2 × LeavesInput (limit_in command) left rest has_ended answer.0
+task_answered command left rest has_ended had took what answer is it = subst (λ (t : Task). IsTask command left rest has_ended had took t) is it
+
+-- a case that is to be executed
+pub task_executed : (command : Option Command) (left rest : Side) (has_ended : Type 0) (had took : Side) (what : Task) (way : Way) (store : Bool) (accepted : Accepted) → what ≡ task.Execute way store accepted
+    → IsTask command left rest has_ended had took what
+    → (command ≡ Some (Read (Execute way store))) × ((bytes : List ℕ) × WasRead (Execute way store) left rest has_ended bytes × IsToExecute (Execute way store) bytes had took way store accepted)
+task_executed command left rest has_ended had took what way store accepted is it = subst (λ (t : Task). IsTask command left rest has_ended had took t) is it
+
+module _ {D B L R : Type 0} (view : D → DiskView) (faults : D → ℕ) (doors : Doors B L R) (door : B) (before : D) (had took : Side) (end : End B D L R) (way : Way) (store : Bool) where
+  abbrev Answer_of : List ℕ → Type 0
+  Answer_of bytes = AnswersBytes (Executed view faults doors door before had took end) (Execute way store) bytes had took end.status end.closed end.world
+
+  executed_read : (bytes : List ℕ) → Answer_of bytes → IsRead end.status
+  executed_read bytes (bytes_starved none starved) = subst IsRead (sym starved.0) tt
+  executed_read bytes (bytes_refused none it) = by_wrote IsRead tt tt it.wrote (λ _. tt)
+  executed_read bytes (bytes_told it) = of_case end.closed it.1
+    where
+      of_case : (closed_run : Option Closed) → TellsCase view faults (told_by doors door end.door end.ends.items way) store before end.disk bytes had took end.status closed_run → IsRead end.status
+      of_case (Some closed) it = by_wrote IsRead tt tt it.headline.report.2 (λ _. by_due IsRead (λ _. tt) (λ _ _. tt) (λ _ _. tt) (λ _ _. tt) it.headline.report.1)
+      of_case None (has_failed on is nothing) = subst IsRead (sym is) tt
+      of_case None (is_tape_refused on it) = by_wrote IsRead tt tt it.line (λ _. tt)
+
+  executed_here : (command : Option Command) (left rest : Side) (has_ended : Type 0) (bytes : List ℕ) → command ≡ Some (Read (Execute way store)) → WasRead (Execute way store) left rest has_ended bytes
+      → Answer_of bytes → LeavesDisk store view faults (Some bytes) before end.disk end.status end.closed → LeavesDoor doors (Some (Read (Execute way store))) end.closed door end.door end.ends.items end.status
+      → Answers view faults doors command door before left.bytes has_ended had took end × LeavesInput (limit_in command) left rest has_ended end.status
+      × LeavesDisk (is_stored command) view faults left.bytes before end.disk end.status end.closed × LeavesDoor doors command end.closed door end.door end.ends.items end.status
+  executed_here command left rest has_ended bytes asked was it disk leaves =
+      subst (λ (c : Option Command). Answers view faults doors c door before left.bytes has_ended had took end × LeavesInput (limit_in c) left rest has_ended end.status
+      × LeavesDisk (is_stored c) view faults left.bytes before end.disk end.status end.closed × LeavesDoor doors c end.closed door end.door end.ends.items end.status) (sym asked) (
+        input_whole bytes was.were_left was.few was.ended it,
+        was.leaves end.status (λ is. subst IsRead is (executed_read bytes it)),
+        disk_left store view faults left.bytes bytes before end.disk end.status end.closed was.were_left disk,
+        leaves,
+      )
+
+  -- it was executed over this disk, with nothing written before
+  pub executed : (disk : D) (mid : Side) → disk ≡ before → mid ≡ had → (command : Option Command) (left rest : Side) (has_ended : Type 0) (bytes : List ℕ) → command ≡ Some (Read (Execute way store))
+      → WasRead (Execute way store) left rest has_ended bytes
+      → AnswersBytes (Executed view faults doors door disk mid took end) (Execute way store) bytes mid took end.status end.closed end.world × LeavesDisk store view faults (Some bytes) disk end.disk end.status end.closed
+      → LeavesDoor doors (Some (Read (Execute way store))) end.closed door end.door end.ends.items end.status
+      → Answers view faults doors command door before left.bytes has_ended had took end × LeavesInput (limit_in command) left rest has_ended end.status
+      × LeavesDisk (is_stored command) view faults left.bytes before end.disk end.status end.closed × LeavesDoor doors command end.closed door end.door end.ends.items end.status
+  executed disk mid same nothing command left rest has_ended bytes asked was it leaves =
+      let here = subst (λ (h : Side). AnswersBytes (Executed view faults doors door before h took end) (Execute way store) bytes h took end.status end.closed end.world) nothing
+      (subst (λ (d : D). AnswersBytes (Executed view faults doors door d mid took end) (Execute way store) bytes mid took end.status end.closed end.world) same it.0) in
+      executed_here command left rest has_ended bytes asked was here (subst (λ (d : D). LeavesDisk store view faults (Some bytes) d end.disk end.status end.closed) same it.1) leaves
 
 -- ---- which fault was counted
-
-pub reads_limit : (command : Command) → IsReading command → limit_in (Some command) ≡ Some (most_bytes command)
-reads_limit (Run workers store) reads = refl
-reads_limit (Serve sessions workers store) reads = refl
-reads_limit Replay reads = refl
-reads_limit (Load number) reads = elim reads [ ]
-reads_limit (Nodes number) reads = refl
-reads_limit Conform reads = refl
-reads_limit Adapt reads = refl
 
 pub read_failed_by : (limit : Option ℕ) (left rest : Side) (has_ended : Type 0) (status : Status) → LeavesInput limit left rest has_ended status → status ≡ ReadFault → Rose left.faults rest.faults
 read_failed_by None left rest has_ended status it is = absurd (it.1 is)
@@ -110,267 +304,149 @@ pub disk_failed_by : {D : Type 0} (view : D → DiskView) (faults : D → ℕ) (
 disk_failed_by view faults true left before after status closed_run it on is = it.counted is
 disk_failed_by view faults false left before after status closed_run it on is = absurd cc
 
-pub door_failed_by : {B L R : Type 0} (doors : Doors B L R) (command : Option Command) (closed_run : Option Closed) (before after : B) (ends : List (LinkEnd L R)) (status : Status)
-    → LeavesDoor doors command closed_run before after ends status → IsServing command → closed_run ≢ None → status ≡ DoorFault → Rose (doors.faults before) (doors.faults after)
-door_failed_by doors (Some (Serve sessions workers store)) (Some closed) before after ends status it serves some is = it.failed is
-door_failed_by doors (Some (Serve sessions workers store)) None before after ends status it serves some is = absurd (some refl)
-door_failed_by doors None closed_run before after ends status it serves some is = elim serves [ ]
-door_failed_by doors (Some (Run workers store)) closed_run before after ends status it serves some is = elim serves [ ]
-door_failed_by doors (Some Replay) closed_run before after ends status it serves some is = elim serves [ ]
-door_failed_by doors (Some (Load number)) closed_run before after ends status it serves some is = elim serves [ ]
-door_failed_by doors (Some (Nodes number)) closed_run before after ends status it serves some is = elim serves [ ]
-door_failed_by doors (Some Conform) closed_run before after ends status it serves some is = elim serves [ ]
-door_failed_by doors (Some Adapt) closed_run before after ends status it serves some is = elim serves [ ]
+pub door_failed_by : {B L R : Type 0} (doors : Doors B L R) (sessions : Option ℕ) (closed_run : Option Closed) (before after : B) (ends : List (LinkEnd L R)) (status : Status)
+    → LeavesFor doors sessions closed_run before after ends status → IsSome sessions → closed_run ≢ None → status ≡ DoorFault → Rose (doors.faults before) (doors.faults after)
+door_failed_by doors (Some sessions) (Some closed) before after ends status it serves some is = it.failed is
+door_failed_by doors (Some sessions) None before after ends status it serves some is = absurd (some refl)
+door_failed_by doors None closed_run before after ends status it serves some is = absurd cc
 
--- ---- where nothing fails
+-- ---- every command
 
-starved_case : (IsDone : Status → Type 0) (store : Bool) (disk : DiskView) (result : Result Spelled AcceptStop) (status : Status) → (status ≡ NoMemory → IsDone status) → status ≡ NoMemory
-    → IsAnsweredCase IsDone store disk result status
-starved_case IsDone store disk (Err why) status done is = inr is
-starved_case IsDone false disk (Ok case) status done is = done is
-starved_case IsDone true disk (Ok case) status done is = λ told. record { empty = λ _. done is; goes_on = λ _ _ _ _. done is; refused = λ _ _ _. inr is }
+each_left : (P : List ℕ → Type 0) → ((bytes : List ℕ) → P bytes) → (left : Option (List ℕ)) → IfSome left P
+each_left P holds None = tt
+each_left P holds (Some bytes) = holds bytes
 
--- an input that is too long is refused, or memory ran out
-abbrev IsCut : ℕ → List ℕ → Status → Type 0
-IsCut limit bytes status = ((limit < length bytes) × IsOr Refused status) ⊎ (status ≡ NoMemory)
+more_left : (P Q : List ℕ → Type 0) → ((bytes : List ℕ) → P bytes → Q bytes) → (left : Option (List ℕ)) → IfSome left P → IfSome left Q
+more_left P Q more None it = tt
+more_left P Q more (Some bytes) it = more bytes it
 
-cut_case : (IsDone : Status → Type 0) (store : Bool) (disk : DiskView) (bytes : List ℕ) (status : Status) → (status ≡ NoMemory → IsDone status) → IsCut 16777216 bytes status
-    → IsAnsweredCase IsDone store disk (case_accepted bytes) status
-cut_case IsDone store disk bytes status done (inl it) = subst (λ r. IsAnsweredCase IsDone store disk r status) (sym (too_long bytes it.0)) it.1
-cut_case IsDone store disk bytes status done (inr is) = starved_case IsDone store disk (case_accepted bytes) status done is
+by_left : (P : Option (List ℕ) → Type 0) → P None → (left : Option (List ℕ)) (bytes : List ℕ) → WereLeft left bytes → P (Some bytes) → P left
+by_left P none None bytes read it = none
+by_left P none (Some told) bytes read it = subst (λ b. P (Some b)) (sym read) it
 
-cut_answer : (command : Command) (disk : DiskView) (bytes : List ℕ) (status : Status) → IsCut (most_bytes command) bytes status → IsAnswered command disk bytes status
-cut_answer (Run workers store) disk bytes status it = cut_case EndsRun store disk bytes status (λ is. inr is) it
-cut_answer (Serve sessions workers store) disk bytes status it = cut_case EndsServing store disk bytes status (λ is. inr (inr is)) it
-cut_answer Replay disk bytes status (inl it) = (λ more. it.1, λ few. absurd (let more = it.0 in omega (arith, more, few)))
-cut_answer Replay disk bytes status (inr is) = (λ more. inr is, λ few verdict found. inr is)
-cut_answer (Load number) disk bytes status it = tt
-cut_answer (Nodes number) disk bytes status it = cut_case EndsRun false disk bytes status (λ is. inr is) it
-cut_answer Conform disk bytes status (inl it) = long_log bytes status it.0 it.1
-cut_answer Conform disk bytes status (inr is) = starved_log (case_before_log bytes) (first_bad (rows_in bytes)) status is
-cut_answer Adapt disk bytes status (inl it) = record { long = λ more. it.1; short = λ few. absurd (let more = it.0 in omega (arith, more, few)) }
-cut_answer Adapt disk bytes status (inr is) = record { long = λ more. inr is; short = λ few. starved_stages (stages_in bytes) status is }
+module _ {D B L R : Type 0} (view : D → DiskView) (faults : D → ℕ) (doors : Doors B L R) (door : B) (before : D) (had took : Side) (end : End B D L R) (left : Option (List ℕ)) (has_ended : Type 0) where
+  abbrev Answered : Option Command → Type 0
+  Answered command = Answers view faults doors command door before left has_ended had took end
 
--- ---- one command
+  abbrev Said : Option Command → Status → Type 0
+  Said command = SaysAt command (view before) (view end.disk) left had took end.closed
 
-module _ {D B L R : Type 0} (view : D → DiskView) (faults : D → ℕ) (doors : Doors B L R) (door : B) (before : D) (had took : Side) (end : End B D L R) where
-  abbrev Bytes : Command → List ℕ → Type 0
-  Bytes command bytes = AnswersBytes view faults doors command door before bytes had took end
+  -- ---- how it ended
 
-  abbrev serving : ℕ → Telling D
-  serving sessions = over_links doors door end.door sessions end.ends.items
+  module _ (law : ValidIsReport) (one : VerdictIsOne) (first : LeastIsTold) (accepted : AcceptedAreTheFormats) (lists : OneList) (none : NoCause) where
+    told_ended : (reading : Reading) (bytes : List ℕ) → WereLeft left bytes → length bytes ≤ most_bytes reading
+        → TellsBytes (Executed view faults doors door before had took end) reading bytes had took end.status end.closed end.world
+        → IsEnded ⊥ (Said (Some (Read reading))) (IsAnswered reading (view before) bytes end.status) end.status had took
+    told_ended (Execute way store) bytes read few it =
+        case_ended view faults doors door end.door end.ends.items way store before end.disk bytes had took end.status left read accepted lists none end.closed it.1
+    told_ended Replay bytes read few it = report_ended law one first (view before) (view end.disk) left bytes had took end.closed end.status read few it.1
+    told_ended (Nodes number) bytes read few it = apart_ended (cases_are_accepted accepted) number (view before) (view end.disk) left bytes had took end.status end.closed end.world it
+    told_ended Conform bytes read few it = log_ended (cases_are_accepted accepted) (view before) (view end.disk) left bytes had took end.closed end.status few it.1
+    told_ended Adapt bytes read few it = stages_ended (view before) (view end.disk) left bytes had took end.status end.closed few it.1
 
-  pub bytes_ended : (command : Command) (bytes : List ℕ) → Bytes command bytes → HasEnded end.status had took
-  bytes_ended (Run workers store) bytes it = case_ended view faults (by_workers workers) store before end.disk bytes had took end.status end.closed it.1
-  bytes_ended (Serve sessions workers store) bytes it = case_ended view faults (serving sessions) store before end.disk bytes had took end.status end.closed it.1
-  bytes_ended Replay bytes it = report_ended bytes had took end.status it.1
-  bytes_ended (Load number) bytes it = elim it [ ]
-  bytes_ended (Nodes number) bytes it = apart_ended bytes had took end.status end.closed end.world it
-  bytes_ended Conform bytes it = log_ended bytes had took end.status it.1
-  bytes_ended Adapt bytes it = stages_ended bytes had took end.status end.closed it.1
+    bytes_ended : (reading : Reading) (bytes : List ℕ) → WereLeft left bytes → length bytes ≤ most_bytes reading
+        → AnswersBytes (Executed view faults doors door before had took end) reading bytes had took end.status end.closed end.world
+        → IsEnded ⊥ (Said (Some (Read reading))) (IsAnswered reading (view before) bytes end.status) end.status had took
+    bytes_ended reading bytes read few (bytes_starved untold starved) =
+        ended_starved ⊥ (Said (Some (Read reading))) (IsAnswered reading (view before) bytes end.status) tt starved (starved_answer reading (view before) bytes end.status starved.0)
+    bytes_ended reading bytes read few (bytes_refused untold it) =
+        ended_with ⊥ (Said (Some (Read reading))) (IsAnswered reading (view before) bytes end.status) tt tt tt it.wrote (λ adds. (reading, refl, refuses_bytes bytes read it.line it.refuses adds.0))
+        (λ _ _ or. refused_answer reading (view before) bytes it.line end.status few it.refuses or)
+    bytes_ended reading bytes read few (bytes_told it) = told_ended reading bytes read few it
 
-  module _ (left : Option (List ℕ)) (has_ended : Type 0) where
-    abbrev Answered : Option Command → Type 0
-    Answered command = Answers view faults doors command door before left has_ended had took end
+    abbrev AnsweredBy : Option Command → Type 0
+    AnsweredBy None = ⊤
+    AnsweredBy (Some (Load number)) = IsOr Done end.status
+    AnsweredBy (Some (Read reading)) = IfSome left (λ bytes. IsAnswered reading (view before) bytes end.status)
 
-    abbrev Input : Command → Type 0
-    Input command = FromInput (most_bytes command) left has_ended had took end.status (IsUntold end) (Bytes command)
+    pub ended : (command : Option Command) → Answered command → IsEnded ⊤ (Said command) (AnsweredBy command) end.status had took
+    ended None it = ended_with ⊤ (Said None) ⊤ tt tt tt it.1.1 (λ adds. refl) (λ _ _ _. tt)
+    ended (Some (Load number)) it =
+        let e = load_ended number (view before) (view end.disk) left had took end.status end.closed it.1 in record { writes = e.writes; reads = λ _. tt; says = e.says; ends = e.ends }
+    ended (Some (Read reading)) (input_unread untold (inl e) nothing) =
+        ended_silent ⊤ (Said (Some (Read reading))) (AnsweredBy (Some (Read reading))) nothing (λ is. let wrong : ReadFault ≡ WriteFault = sym e ∙ is in cc) (λ _. tt) (subst (Said (Some (Read reading))) (sym e) tt)
+        (λ unread _. absurd (unread e))
+    ended (Some (Read reading)) (input_unread untold (inr e) nothing) =
+        ended_starved ⊤ (Said (Some (Read reading))) (AnsweredBy (Some (Read reading))) tt (e, nothing)
+        (each_left (λ bytes. IsAnswered reading (view before) bytes end.status) (λ bytes. starved_answer reading (view before) bytes end.status e) left)
+    ended (Some (Read reading)) (input_long untold more line) =
+        ended_with ⊤ (Said (Some (Read reading))) (AnsweredBy (Some (Read reading))) tt tt tt line (λ adds. (reading, refl, refuses_long more adds.0))
+        (λ _ _ or. more_left (λ bytes. most_bytes reading < length bytes) (λ bytes. IsAnswered reading (view before) bytes end.status)
+        (λ bytes long. long_answer reading (view before) bytes end.status long or) left more)
+    ended (Some (Read reading)) (input_whole bytes read few was it) =
+        let e = bytes_ended reading bytes read few it in record {
+          writes = e.writes;
+          reads = λ _. tt;
+          says = e.says;
+          ends = λ reads writes disks falls. of_left (λ b. IsAnswered reading (view before) b end.status) left bytes read (e.ends reads writes disks falls);
+        }
 
-    pub reads_answers : (command : Command) → IsReading command → Input command → Answered (Some command)
-    reads_answers (Run workers store) reads it = it
-    reads_answers (Serve sessions workers store) reads it = it
-    reads_answers Replay reads it = it
-    reads_answers (Load number) reads it = elim reads [ ]
-    reads_answers (Nodes number) reads it = it
-    reads_answers Conform reads it = it
-    reads_answers Adapt reads it = it
+    pub says_told : (command : Option Command) → Answered command → Says command (view before) (view end.disk) left had took end.closed end.status
+    says_told command it = says_all command (view before) (view end.disk) left had took end.closed end.status (ended command it).says
 
-    -- what holds of words that are no command, of a number and of each command that reads holds of all
-    by_command : (P : Option Command → Type 0) → (Answered None → P None) → ((number : ℕ) → Answered (Some (Load number)) → P (Some (Load number)))
-        → ((command : Command) → IsReading command → Input command → P (Some command)) → (command : Option Command) → Answered command → P command
-    by_command P none loads reads None it = none it
-    by_command P none loads reads (Some (Load number)) it = loads number it
-    by_command P none loads reads (Some (Run workers store)) it = reads (Run workers store) tt it
-    by_command P none loads reads (Some (Serve sessions workers store)) it = reads (Serve sessions workers store) tt it
-    by_command P none loads reads (Some Replay) it = reads Replay tt it
-    by_command P none loads reads (Some (Nodes number)) it = reads (Nodes number) tt it
-    by_command P none loads reads (Some Conform) it = reads Conform tt it
-    by_command P none loads reads (Some Adapt) it = reads Adapt tt it
-
-    -- ---- the output
-
-    pub answers_counted : (command : Option Command) → Answered command → CountsWhere (end.status ≡ WriteFault) had.faults took.faults
-    answers_counted command it = by_command (λ _. CountsWhere (end.status ≡ WriteFault) had.faults took.faults)
-        (λ it. ended_counted end.status had took (ended_with Usage (codes "usage\n") tt it.1.1))
-        (λ number it. ended_counted end.status had took (load_ended number had took end.status end.closed it.1)) of_input command it
+    pub ends_by : (reads writes disks falls : Type 0) → (end.status ≡ ReadFault → reads) → (end.status ≡ WriteFault → writes) → (command : Option Command)
+        → (is_stored command ≡ true → end.status ≡ DiskFault → disks) → (IsServing command → end.closed ≢ None → end.status ≡ DoorFault → falls) → Answered command
+        → EndsAs command (view before) left reads writes disks falls end.status
+    ends_by reads writes disks falls read_told write_told None disk_told door_told it =
+        by_usage it.1.1
       where
-        of_input : (command : Command) → IsReading command → Input command → CountsWhere (end.status ≡ WriteFault) had.faults took.faults
-        of_input command reads (input_unread untold (inl e) nothing) = uncounted (end.status ≡ WriteFault) had.faults took.faults (λ is. let wrong = sym e ∙ is in cc) nothing.1
-        of_input command reads (input_unread untold (inr e) nothing) = uncounted (end.status ≡ WriteFault) had.faults took.faults (λ is. let wrong = sym e ∙ is in cc) nothing.1
-        of_input command reads (input_long untold more line) = ended_counted end.status had took (ended_with Refused (case_line stop.TooLong) tt line)
-        of_input command reads (input_whole bytes read few ended it) = ended_counted end.status had took (bytes_ended command bytes it)
+        by_usage : Wrote Usage (codes "usage\n") end.status had took → (end.status ≡ Usage) ⊎ (end.status ≡ WriteFault)
+        by_usage (wrote_all is adds) = inl is
+        by_usage (write_failed is stopped fails) = inr is
+        by_usage (write_starved is stopped same) = absurd (it.1.0 is)
+    ends_by reads writes disks falls read_told write_told (Some (Load number)) disk_told door_told it = λ fine.
+        let e = load_ended number (view before) (view end.disk) left had took end.status end.closed it.1 in
+        e.ends e.reads (λ is. fine (write_told is)) (λ is. let wrong = subst (Said (Some (Load number))) is e.says in cc) (λ is. let wrong = (subst (Said (Some (Load number))) is e.says).0 in cc)
+    ends_by reads writes disks falls read_told write_told (Some (Read reading)) disk_told door_told it = λ reads_fine writes_fine disks_fine falls_fine.
+        let e = ended (Some (Read reading)) it in
+        e.ends (λ is. reads_fine (read_told is)) (λ is. writes_fine (write_told is)) (λ is. let stored = subst (Said (Some (Read reading))) is e.says in disks_fine (stored, disk_told stored is))
+        (λ is. let serves = subst (Said (Some (Read reading))) is e.says in falls_fine (serves.0, door_told serves.0 serves.1 is))
 
-    -- ---- the headline
+  -- ---- a run that is told
 
-    none_told : (P : Closed → Type 0) (closed_run : Option Closed) → closed_run ≡ None → IfSome closed_run P
-    none_told P None none = tt
-    none_told P (Some closed) none = absurd cc
+  -- of a case that is executed a run is told, or none
+  run_or : (way : Way) (store : Bool) → Answered (Some (Read (Execute way store)))
+      → (end.closed ≡ None) ⊎ ((bytes : List ℕ) × WereLeft left bytes × has_ended × Executed view faults doors door before had took end way store bytes)
+  run_or way store (input_unread none why nothing) = inl none.0
+  run_or way store (input_long none more line) = inl none.0
+  run_or way store (input_whole bytes read few ended (bytes_starved none starved)) = inl none.0
+  run_or way store (input_whole bytes read few ended (bytes_refused none it)) = inl none.0
+  run_or way store (input_whole bytes read few ended (bytes_told it)) = inr (bytes, read, ended, it.1)
 
-    headline_case : (limit : ℕ) (telling : Telling D) (store : Bool)
-        → FromInput limit left has_ended had took end.status (IsUntold end) (λ bytes. (end.world ≡ None) × AnswersCase view faults telling store before end.disk bytes had took end.status end.closed)
-        → IfSome end.closed (λ closed. TellsRun view faults telling store before end.disk left has_ended had took end.status closed)
-    headline_case limit telling store (input_unread untold why nothing) = none_told _ end.closed untold.0
-    headline_case limit telling store (input_long untold more line) = none_told _ end.closed untold.0
-    headline_case limit telling store (input_whole bytes read few ended it) = of_run end.closed it.1
-      where
-        of_run : (closed_run : Option Closed) → AnswersCase view faults telling store before end.disk bytes had took end.status closed_run
-            → IfSome closed_run (λ closed. TellsRun view faults telling store before end.disk left has_ended had took end.status closed)
-        of_run None it = tt
-        of_run (Some closed) it = tells_left view faults telling store before end.disk left has_ended bytes had took end.status closed read ended it
+  abbrev TellsIt : Way → Bool → Closed → Type 0
+  TellsIt way store closed = TellsRun view faults (told_by doors door end.door end.ends.items way) store before end.disk left has_ended had took end.status closed
 
-    pub headline_by : (command : Option Command) → Answered command → IsHeadline view faults doors command door before left has_ended had took end
-    headline_by None it = tt
-    headline_by (Some (Run workers store)) it = headline_case 16777216 (by_workers workers) store it
-    headline_by (Some (Serve sessions workers store)) it = headline_case 16777216 (serving sessions) store it
-    headline_by (Some Replay) it = tt
-    headline_by (Some (Load number)) it = tt
-    headline_by (Some (Nodes number)) it = tt
-    headline_by (Some Conform) it = tt
-    headline_by (Some Adapt) it = tt
+  told_left : (way : Way) (store : Bool) (closed_run : Option Closed) (bytes : List ℕ) → WereLeft left bytes → has_ended
+      → TellsCase view faults (told_by doors door end.door end.ends.items way) store before end.disk bytes had took end.status closed_run → IfSome closed_run (TellsIt way store)
+  told_left way store None bytes read ended it = tt
+  told_left way store (Some closed) bytes read ended it =
+      tells_left view faults (told_by doors door end.door end.ends.items way) store before end.disk left has_ended bytes had took end.status closed read ended it
 
-    -- ---- what the status says
+  pub headline_by : (command : Option Command) → Answered command → IsHeadline view faults doors command door before left has_ended had took end
+  headline_by None it = tt
+  headline_by (Some (Load number)) it = tt
+  headline_by (Some (Read (Execute way store))) it = elim (run_or way store it) [
+    | inl none ↦ subst (λ (c : Option Closed). IfSome c (TellsIt way store)) (sym none) tt
+    | inr told ↦ told_left way store end.closed told.0 told.1 told.2 told.3
+  ]
+  headline_by (Some (Read Replay)) it = tt
+  headline_by (Some (Read (Nodes number))) it = tt
+  headline_by (Some (Read Conform)) it = tt
+  headline_by (Some (Read Adapt)) it = tt
 
-    module _ (law : ValidIsReport) (one : VerdictIsOne) (first : LeastIsTold) where
-      abbrev Said : Option Command → Status → Type 0
-      Said command status = SaysAt command (view before) (view end.disk) left had took end.closed status
-
-      bytes_say : (command : Command) (bytes : List ℕ) → WereLeft left bytes → Bytes command bytes → Said (Some command) end.status
-      bytes_say (Run workers store) bytes read it =
-          case_says view faults (by_workers workers) store before end.disk bytes had took end.status (Run workers store) left read refl (λ why. why) (λ J full. elim full [ ]) (λ failed. elim failed [ ])
-          end.closed (λ report. report) it.1
-      bytes_say (Serve sessions workers store) bytes read it =
-          case_says view faults (serving sessions) store before end.disk bytes had took end.status (Serve sessions workers store) left read refl (λ why. why) (λ J full. (tt, full)) (λ failed. tt)
-          end.closed (λ report. report) it.1
-      bytes_say Replay bytes read it = report_says law one first (view before) (view end.disk) left bytes had took end.closed end.status read it.1
-      bytes_say (Load number) bytes read it = elim it [ ]
-      bytes_say (Nodes number) bytes read it = apart_says number (view before) (view end.disk) left bytes had took end.status end.closed end.world read it
-      bytes_say Conform bytes read it = log_says (view before) (view end.disk) left bytes had took end.closed end.status read it.1
-      bytes_say Adapt bytes read it = stages_say (view before) (view end.disk) left bytes had took end.status end.closed read it.1
-
-      says_by : (command : Option Command) → Answered command → Said command end.status
-      says_by command it = by_command (λ c. Said c end.status) (λ it. by_wrote (Said None) tt tt Usage (codes "usage\n") end.status had took it.1.1 (λ adds. refl))
-          (λ number it. load_says number (view before) (view end.disk) left had took end.status end.closed it.1) of_input command it
-        where
-          of_input : (command : Command) → IsReading command → Input command → Said (Some command) end.status
-          of_input command reads (input_unread untold (inl e) nothing) = subst (Said (Some command)) (sym e) tt
-          of_input command reads (input_unread untold (inr e) nothing) = subst (Said (Some command)) (sym e) tt
-          of_input command reads (input_long untold more line) =
-              by_wrote (Said (Some command)) tt tt Refused (case_line stop.TooLong) end.status had took line (λ adds. (command, refl, inl (more, adds.0)))
-          of_input command reads (input_whole bytes read few ended it) = bytes_say command bytes read it
-
-      pub says_told : (command : Option Command) → Answered command → Says command (view before) (view end.disk) left had took end.closed end.status
-      says_told command it = says_all command (view before) (view end.disk) left had took end.closed end.status (says_by command it)
-
-      -- ---- where nothing fails
-
-      module _ (accepted : AcceptedAreTheFormats) (lists : OneList) (none : NoCause) where
-        bytes_end : (command : Command) (bytes : List ℕ) → WereLeft left bytes → length bytes ≤ most_bytes command → (end.status ≡ WriteFault → ⊥) → (end.status ≡ DiskFault → ⊥)
-            → (end.status ≡ DoorFault → ⊥) → Bytes command bytes → IsAnswered command (view before) bytes end.status
-        bytes_end (Run workers store) bytes read few writes disks doors_fine it =
-            case_ends view faults (by_workers workers) store before end.disk bytes had took end.status accepted lists none writes disks doors_fine EndsRun (λ e. e) (λ e J full. elim full [ ])
-            end.closed it.1
-        bytes_end (Serve sessions workers store) bytes read few writes disks doors_fine it =
-            case_ends view faults (serving sessions) store before end.disk bytes had took end.status accepted lists none writes disks doors_fine EndsServing (λ e. inr e) (λ e J full. inl e)
-            end.closed it.1
-        bytes_end Replay bytes read few writes disks doors_fine it = report_ends one bytes had took end.status few writes it.1
-        bytes_end (Load number) bytes read few writes disks doors_fine it = tt
-        bytes_end (Nodes number) bytes read few writes disks doors_fine it =
-            apart_ends (cases_are_accepted accepted) (view before) bytes had took end.status end.closed end.world writes it
-        bytes_end Conform bytes read few writes disks doors_fine it = log_ends (cases_are_accepted accepted) bytes had took end.status few writes it.1
-        bytes_end Adapt bytes read few writes disks doors_fine it = stages_end bytes had took end.status end.closed few writes it.1
-
-        pub ends_by : (reads writes disks falls : Type 0) → (end.status ≡ ReadFault → reads) → (end.status ≡ WriteFault → writes) → (command : Option Command)
-            → (is_stored command ≡ true → end.status ≡ DiskFault → disks) → (IsServing command → end.closed ≢ None → end.status ≡ DoorFault → falls) → Answered command
-            → EndsAs command (view before) left reads writes disks falls end.status
-        ends_by reads writes disks falls read_told write_told command disk_told door_told it =
-            by_command (λ c. (is_stored c ≡ true → end.status ≡ DiskFault → disks) → (IsServing c → end.closed ≢ None → end.status ≡ DoorFault → falls) → Said c end.status
-            → EndsAs c (view before) left reads writes disks falls end.status)
-            (λ it _ _ _. elim (seen Usage (codes "usage\n") end.status had took it.1.1) [
-              | inl e ↦ inl e.0
-              | inr other ↦ elim other [
-                | inl e ↦ inr e.0
-                | inr e ↦ absurd (it.1.0 e.0)
-              ]
-            ])
-            (λ number it _ _ _ fine. load_ends number had took end.status end.closed (λ e. fine (write_told e)) it.1)
-            of_input command it disk_told door_told (says_by command it)
-          where
-            answered : (command : Command) → (reads → ⊥) → (end.status ≡ WriteFault → ⊥) → (end.status ≡ DiskFault → ⊥) → (end.status ≡ DoorFault → ⊥) → Input command
-                → IfSome left (λ bytes. IsAnswered command (view before) bytes end.status)
-            answered command fine writes disks doors_fine (input_unread untold (inl e) nothing) = absurd (fine (read_told e))
-            answered command fine writes disks doors_fine (input_unread untold (inr e) nothing) = starves left
-              where
-                starves : (rest : Option (List ℕ)) → IfSome rest (λ bytes. IsAnswered command (view before) bytes end.status)
-                starves None = tt
-                starves (Some bytes) = cut_answer command (view before) bytes end.status (inr e)
-            answered command fine writes disks doors_fine (input_long untold more line) = cut left more
-              where
-                cut : (rest : Option (List ℕ)) → IfSome rest (λ bytes. most_bytes command < length bytes) → IfSome rest (λ bytes. IsAnswered command (view before) bytes end.status)
-                cut None long = tt
-                cut (Some bytes) long = cut_answer command (view before) bytes end.status (inl (long, due_or Refused (case_line stop.TooLong) end.status had took writes line))
-            answered command fine writes disks doors_fine (input_whole bytes read few ended it) =
-                of_left (λ b. IsAnswered command (view before) b end.status) left bytes read (bytes_end command bytes read few writes disks doors_fine it)
-
-            fine_input : (command : Command) → (is_stored (Some command) ≡ true → end.status ≡ DiskFault → disks) → (IsServing (Some command) → end.closed ≢ None → end.status ≡ DoorFault → falls)
-                → Said (Some command) end.status → Input command → (reads → ⊥) → (writes → ⊥) → ((is_stored (Some command) ≡ true) × disks → ⊥) → (IsServing (Some command) × falls → ⊥)
-                → IfSome left (λ bytes. IsAnswered command (view before) bytes end.status)
-            fine_input command disk_said door_said said it = λ fine writes_fine disks_fine falls_fine.
-                answered command fine (λ e. writes_fine (write_told e))
-                (λ e. let stored = subst (Said (Some command)) e said in disks_fine (stored, disk_said stored e))
-                (λ e. let serves = subst (Said (Some command)) e said in falls_fine (serves.0, door_said serves.0 serves.1 e)) it
-
-            of_input : (command : Command) → IsReading command → Input command → (is_stored (Some command) ≡ true → end.status ≡ DiskFault → disks)
-                → (IsServing (Some command) → end.closed ≢ None → end.status ≡ DoorFault → falls) → Said (Some command) end.status → EndsAs (Some command) (view before) left reads writes disks falls end.status
-            of_input (Run workers store) reading it disk_said door_said said = fine_input (Run workers store) disk_said door_said said it
-            of_input (Serve sessions workers store) reading it disk_said door_said said = fine_input (Serve sessions workers store) disk_said door_said said it
-            of_input Replay reading it disk_said door_said said = fine_input Replay disk_said door_said said it
-            of_input (Load number) reading it disk_said door_said said = elim reading [ ]
-            of_input (Nodes number) reading it disk_said door_said said = fine_input (Nodes number) disk_said door_said said it
-            of_input Conform reading it disk_said door_said said = fine_input Conform disk_said door_said said it
-            of_input Adapt reading it disk_said door_said said = fine_input Adapt disk_said door_said said it
-
-    -- ---- the other way round
-
-    module _ (law : AcceptedAreTheFormats) (ordered : OrderedIsTold) where
-      none_by_one : (workers : ℕ) (rest : Option (List ℕ)) (closed_run : Option Closed) → closed_run ≡ None → IsToldByOne workers rest closed_run
-      none_by_one workers None closed_run none = tt
-      none_by_one workers (Some bytes) None none = λ case is. tt
-      none_by_one workers (Some bytes) (Some closed) none = absurd cc
-
-      none_throughout : (rest : Option (List ℕ)) (closed_run : Option Closed) → closed_run ≡ None → IsDoneThroughout rest closed_run
-      none_throughout None closed_run none = tt
-      none_throughout (Some bytes) None none = λ case events executions is one spell. tt
-      none_throughout (Some bytes) (Some closed) none = absurd cc
-
-      one_left : (workers : ℕ) (rest : Option (List ℕ)) (bytes : List ℕ) → WereLeft rest bytes → IsToldByOne workers (Some bytes) end.closed → IsToldByOne workers rest end.closed
-      one_left workers None bytes read it = tt
-      one_left workers (Some told_bytes) bytes read it = subst (λ b. IsToldByOne workers (Some b) end.closed) (sym read) it
-
-      throughout_left : (rest : Option (List ℕ)) (bytes : List ℕ) → WereLeft rest bytes → IsDoneThroughout (Some bytes) end.closed → IsDoneThroughout rest end.closed
-      throughout_left None bytes read it = tt
-      throughout_left (Some told_bytes) bytes read it = subst (λ b. IsDoneThroughout (Some b) end.closed) (sym read) it
-
-      pub converse_by : (command : Option Command) → Answered command → IsConverse command left end.closed
-      converse_by None it = tt
-      converse_by (Some (Run workers store)) (input_unread untold why nothing) = (none_by_one workers left end.closed untold.0, none_throughout left end.closed untold.0)
-      converse_by (Some (Run workers store)) (input_long untold more line) = (none_by_one workers left end.closed untold.0, none_throughout left end.closed untold.0)
-      converse_by (Some (Run workers store)) (input_whole bytes read few ended it) = (
-        one_left workers left bytes read (told_by_one view faults law ordered workers store before end.disk had took end.status bytes end.closed it.1),
-        throughout_left left bytes read (done_throughout view faults law ordered workers store before end.disk had took end.status bytes end.closed it.1),
-      )
-      converse_by (Some (Serve sessions workers store)) it = tt
-      converse_by (Some Replay) it = tt
-      converse_by (Some (Load number)) it = tt
-      converse_by (Some (Nodes number)) it = tt
-      converse_by (Some Conform) it = tt
-      converse_by (Some Adapt) it = tt
+  pub converse_by : AcceptedAreTheFormats → OrderedIsTold → (command : Option Command) → Answered command → IsConverse command left end.closed
+  converse_by law ordered None it = tt
+  converse_by law ordered (Some (Load number)) it = tt
+  converse_by law ordered (Some (Read (Execute (Run workers) store))) it = elim (run_or (Run workers) store it) [
+    | inl none ↦ subst (λ (c : Option Closed). IsConverse (Some (Read (Execute (Run workers) store))) left c) (sym none)
+        (each_left _ (λ bytes case is. tt) left, each_left _ (λ bytes case events executions is spelled spell. tt) left)
+    | inr told ↦ (
+      by_left (λ l. IsToldByOne workers l end.closed) tt left told.0 told.1 (told_by_one view faults law ordered workers store before end.disk had took end.status told.0 end.closed told.3),
+      by_left (λ l. IsDoneThroughout l end.closed) tt left told.0 told.1 (done_throughout view faults law ordered workers store before end.disk had took end.status told.0 end.closed told.3),
+    )
+  ]
+  converse_by law ordered (Some (Read (Execute (Serve sessions workers) store))) it = tt
+  converse_by law ordered (Some (Read Replay)) it = tt
+  converse_by law ordered (Some (Read (Nodes number))) it = tt
+  converse_by law ordered (Some (Read Conform)) it = tt
+  converse_by law ordered (Some (Read Adapt)) it = tt

@@ -1,12 +1,12 @@
--- How the run of a case ended, what its status says, and what it ends with where nothing fails.
-use Rattle.std.proofs.Common.{◌≡◌, ◌≢◌, ◌⊎◌, ℕ, ◌≤◌, Bool, true, false, List, [], length, Option, Some, None, Result, Ok, Err, inl, inr, refl, sym, subst, ◌∙◌}
+-- What is known of a case that was executed.
+use Rattle.std.proofs.Common.{◌≡◌, ◌≢◌, ◌⊎◌, ℕ, ◌≤◌, Bool, true, false, List, [], length, Option, Some, None, Ok, inl, inr, refl, sym, subst, ◌∙◌}
 use Rattle.std.specs.Prelude.{⊤}
-use Rattle.std.specs.Io.KnownBytes.{Appends}
 use Rattle.std.proofs.lemmas.Option.{slice_get_within}
 use Rattle.dcr_base.specs.Disk.{DiskView}
-use Rattle.dcr_base.specs.Side.{Adds, Side}
+use Rattle.dcr_base.specs.Door.{Doors}
+use Rattle.dcr_base.specs.Side.{Side}
 use Rattle.dcr_base.specs.declared.status.Status.{Status}
-use Rattle.dcr_base.specs.declared.status.Status.TheVariants.{Done, Refused, WriteFault, DiskFault, Full, TapeRefused, DoorFault}
+use Rattle.dcr_base.specs.declared.status.Status.TheVariants.{Done, ReadFault, WriteFault, DiskFault, Full, TapeRefused}
 use Rattle.dcr_journal.specs.Run.{HasNoFault}
 use Rattle.dcr_journal.specs.declared.closed.Closed.{Closed}
 use Rattle.dcr_journal.specs.declared.call.Entry.{Entry}
@@ -17,23 +17,25 @@ use Rattle.dcr_tape.specs.declared.cause.TapeCause.{TapeCause}
 use Rattle.dcr_tape.specs.declared.entry.TapeEntry.{TapeEntry}
 use Rattle.dcr_cluster.specs.Opening.{ArePossible, IsFirstBad}
 use Rattle.dcr_engine.specs.Served.{most_served}
+use Rattle.dcr_serving.specs.declared.end.LinkEnd.{LinkEnd}
 use Rattle.dcr_json.specs.Judged.{Spelled}
-use Rattle.dcr_report.specs.Report.{report_text}
-use Rattle.dcr_roles.specs.Accepted.{HadMemory, case_accepted}
+use Rattle.dcr_roles.specs.Accepted.{case_accepted}
 use Rattle.dcr_roles.specs.Laws.{AcceptedAreTheFormats}
-use Rattle.dcr_roles.specs.declared.accepted.AcceptStop.{AcceptStop}
-use Rattle.dcr_app.specs.Answers.{AnswersCase, IsAnsweredCase, IsOr, IsRefused, IsServing, IsTapeRefused, RefusesBytes, TellsNone, TellsRun, WroteReport, has_failed, is_refused, is_starved, is_stored, is_tape_refused}
+use Rattle.dcr_report.specs.Report.{report_text}
+use Rattle.dcr_app.specs.Answers.{EndsRun, IsAnsweredCase, IsOr, IsTapeRefused, TellsCase, TellsRun, has_failed, is_tape_refused}
 use Rattle.dcr_app.specs.Headline.{BeginsWith, cluster_in, digest_of}
-use Rattle.dcr_app.specs.Outside.{IsStarved, WereLeft}
-use Rattle.dcr_app.specs.Refusal.{refusal_line}
-use Rattle.dcr_app.specs.Stored.{RefusesTape, by_bytes, by_execution, tape_line}
-use Rattle.dcr_app.specs.Telling.{IsDueBy, Telling, all_done, disk_failed, door_failed, is_full}
-use Rattle.dcr_app.specs.declared.command.Command.{Command}
-use Rattle.dcr_app.proofs.DueLemmas.{of_report}
-use Rattle.dcr_app.proofs.OutsideLemmas.{HasEnded, by_starved, by_wrote, due_or, report_is_due, ended_silent, ended_with}
-use Rattle.dcr_app.proofs.RunLemmas.{one_case, read_as}
+use Rattle.dcr_app.specs.Outside.{WereLeft, wrote_all}
+use Rattle.dcr_app.specs.Stored.{RefusesTape, by_bytes, by_execution}
+use Rattle.dcr_app.specs.Telling.{IsServing, Telling, told_by}
+use Rattle.dcr_app.specs.declared.command.Command.TheVariants.{Read}
+use Rattle.dcr_app.specs.declared.command.Reading.TheVariants.{Execute}
+use Rattle.dcr_app.specs.declared.command.Way.{Way}
+use Rattle.dcr_app.specs.declared.command.Way.TheVariants.{Run, Serve}
+use Rattle.dcr_app.proofs.DueLemmas.{by_due}
+use Rattle.dcr_app.proofs.OutsideLemmas.{IsDue, IsEnded, ended_silent, ended_with}
+use Rattle.dcr_app.proofs.RunLemmas.{read_as}
+use Rattle.dcr_app.proofs.SaysLemmas.{SaysAt}
 use Rattle.dcr_app.proofs.TapeLemmas.{one_stands}
-use Rattle.dcr_app.proofs.SaysLemmas.{DoneSays, SaysAt}
 
 -- the first execution that can't be done is one that can't
 bad_and_possible : (case : Spelled) (old : List TapeEntry) (at : ℕ) → IsFirstBad (cluster_in case old) at → ArePossible (cluster_in case old) (length old) → ⊥
@@ -47,152 +49,86 @@ gone_on_from one none case content cause old (by_execution at is other there few
     let same : other ≡ old = (one_stands one content (digest_of case) (digest_of case) other old there here).1 in
     bad_and_possible case old at (subst (λ l. IsFirstBad (cluster_in case l) at) same bad) possible
 
--- bytes that are not accepted, or for which memory ran out
-pub refused_ended : (bytes : List ℕ) (had took : Side) (status : Status) → IsStarved status had took ⊎ IsRefused bytes had took status → HasEnded status had took
-refused_ended bytes had took status (inl starved) = ended_silent (inl starved.0) starved.1
-refused_ended bytes had took status (inr it) = ended_with Refused (refusal_line it.why) tt it.line
+module _ {D B L R : Type 0} (view : D → DiskView) (faults : D → ℕ) (doors : Doors B L R) (door after_door : B) (ends : List (LinkEnd L R)) (way : Way) (store : Bool) (before after : D)
+    (bytes : List ℕ) (had took : Side) (status : Status) where
+  abbrev telling : Telling D
+  telling = told_by doors door after_door ends way
 
-abbrev NotFailed : Status → Type 0
-NotFailed DiskFault = ⊥
-NotFailed status = Unit {0}
+  -- a history is full, and a door fails, in `serve` alone
+  full_by : (w : Way) (J : List Entry) → (told_by {D = D} doors door after_door ends w).full J → IsServing (Some (Read (Execute w store))) × (length J ≡ most_served)
+  full_by (Run workers) J full = elim full [ ]
+  full_by (Serve sessions workers) J full = (refl, full)
 
-pub refused_uncalled : (bytes : List ℕ) (had took : Side) (status : Status) → IsStarved status had took ⊎ IsRefused bytes had took status → status ≢ DiskFault
-refused_uncalled bytes had took status it is = elim (subst NotFailed is (fine it)) [ ]
-  where
-    fine : IsStarved status had took ⊎ IsRefused bytes had took status → NotFailed status
-    fine (inl starved) = by_starved NotFailed tt status had took starved
-    fine (inr it) = by_wrote NotFailed tt tt Refused (refusal_line it.why) status had took it.line (λ _. tt)
+  failed_by : (w : Way) → (told_by {D = D} doors door after_door ends w).door_failed → IsServing (Some (Read (Execute w store)))
+  failed_by (Run workers) failed = elim failed [ ]
+  failed_by (Serve sessions workers) failed = refl
 
-module _ {D : Type 0} (view : D → DiskView) (faults : D → ℕ) (telling : Telling D) (store : Bool) (before after : D) (bytes : List ℕ) (had took : Side) (status : Status) where
-  pub refused_none : IsStarved status had took ⊎ IsRefused bytes had took status → AnswersCase view faults telling store before after bytes had took status None
-  refused_none (inl starved) = is_starved starved
-  refused_none (inr it) = is_refused it
+  done_by : (w : Way) → IsOr Done status → EndsRun w status
+  done_by (Run workers) or = or
+  done_by (Serve sessions workers) or = inr or
 
-  pub case_ended : (closed_run : Option Closed) → AnswersCase view faults telling store before after bytes had took status closed_run → HasEnded status had took
-  case_ended (Some closed) it =
-      let report = it.headline.report in
-      ended_with report.0 (report_text it.case.nested it.case.cover closed.opening closed.history.entries) (report_is_due report.0 (of_report report.0 report.1)) report.2
-  case_ended None (is_starved starved) = ended_silent (inl starved.0) starved.1
-  case_ended None (is_refused it) = ended_with Refused (refusal_line it.why) tt it.line
-  case_ended None (has_failed on is nothing) = ended_silent (inr is) nothing
-  case_ended None (is_tape_refused on it) = ended_with TapeRefused (tape_line it.cause) tt it.line
+  filled_by : (w : Way) (J : List Entry) → (told_by {D = D} doors door after_door ends w).full J → IsOr Full status → EndsRun w status
+  filled_by (Run workers) J full or = elim full [ ]
+  filled_by (Serve sessions workers) J full (inl e) = inl e
+  filled_by (Serve sessions workers) J full (inr e) = inr (inr e)
 
-  -- what the status says of a command that reads a case and executes it
-  module _ (reading : Command) (left : Option (List ℕ)) (read : WereLeft left bytes) (stored : is_stored (Some reading) ≡ store)
-      (refuses : (why : AcceptStop) × (case_accepted bytes ≡ Err why) × HadMemory why × Appends had.bytes took.bytes (refusal_line why) → RefusesBytes reading bytes had.bytes took.bytes)
-      (full : (J : List Entry) → telling.full J → IsServing (Some reading) × (length J ≡ most_served)) (failed : telling.door_failed → IsServing (Some reading)) where
-    pub case_says : (closed_run : Option Closed) → (WroteReport had.bytes took.bytes closed_run → DoneSays (Some reading) left had took closed_run)
-        → AnswersCase view faults telling store before after bytes had took status closed_run → SaysAt (Some reading) (view before) (view after) left had took closed_run status
-    case_says (Some closed) done it =
-        let P : Status → Type 0 = SaysAt (Some reading) (view before) (view after) left had took (Some closed) in
-        let text = report_text it.case.nested it.case.cover closed.opening closed.history.entries in
-        by_wrote P tt tt it.headline.report.0 text status had took it.headline.report.2 (by_due it.headline.report.0 it.headline.report.1)
-      where
-        on_store : (s : Bool) → is_stored (Some reading) ≡ s → ((status ≡ Done) ⊎ (s ≡ false) → HasNoFault closed.history.entries) → (HasNoFault closed.history.entries → ⊥)
-            → is_stored (Some reading) ≡ true
-        on_store true is fine some = is
-        on_store false is fine some = absurd (some (fine (inr refl)))
+  module _ (left : Option (List ℕ)) (read : WereLeft left bytes) (law : AcceptedAreTheFormats) (one : OneList) (none : NoCause) where
+    abbrev Answered : Type 0
+    Answered = IsAnsweredCase (EndsRun way) store (view before) (case_accepted bytes) status
 
-        by_due : (due : Status) → IsDueBy (HasNoFault closed.history.entries) (telling.full closed.history.entries) telling.door_failed due
-            → Adds (report_text it.case.nested it.case.cover closed.opening closed.history.entries) had took
-            → SaysAt (Some reading) (view before) (view after) left had took (Some closed) due
-        by_due due (all_done none room is) adds =
-            subst (SaysAt (Some reading) (view before) (view after) left had took (Some closed)) (sym is)
-            (done (report_text it.case.nested it.case.cover closed.opening closed.history.entries, adds.0, it.legal))
-        by_due due (disk_failed some is) adds =
-            subst (SaysAt (Some reading) (view before) (view after) left had took (Some closed)) (sym is) (on_store store stored it.headline.history.3 some)
-        by_due due (is_full none is_all is) adds =
-            subst (SaysAt (Some reading) (view before) (view after) left had took (Some closed)) (sym is) (full closed.history.entries is_all)
-        by_due due (door_failed none room fell is) adds =
-            subst (SaysAt (Some reading) (view before) (view after) left had took (Some closed)) (sym is) (failed fell, λ untold. let wrong : Some closed ≡ None = untold in cc)
-    case_says None done (is_starved starved) = by_starved (SaysAt (Some reading) (view before) (view after) left had took None) tt status had took starved
-    case_says None done (is_refused it) =
-        by_wrote (SaysAt (Some reading) (view before) (view after) left had took None) tt tt Refused (refusal_line it.why) status had took it.line
-        (λ adds. (reading, refl, inr (bytes, read, refuses (it.why, it.refuses, it.named, adds.0))))
-    case_says None done (has_failed on is nothing) = subst (SaysAt (Some reading) (view before) (view after) left had took None) (sym is) (stored ∙ on)
-    case_says None done (is_tape_refused on it) =
-        by_wrote (SaysAt (Some reading) (view before) (view after) left had took None) tt tt TapeRefused (tape_line it.cause) status had took it.line
-        (λ adds. (
-          stored ∙ on,
-          (
-            bytes,
-            read,
-            record {
-              case = it.case;
-              spelled = it.spelled;
-              content = it.content;
-              was = it.was;
-              stays = it.stays;
-              some = it.some;
-              cause = it.cause;
-              stands = it.stands;
-              line = (refl, adds);
-            },
-          ),
-        ))
+    abbrev Said : Option Closed → Status → Type 0
+    Said closed_run = SaysAt (Some (Read (Execute way store))) (view before) (view after) left had took closed_run
 
-  -- ---- where nothing fails
+    -- a run that is told
+    module _ (closed : Closed) (it : TellsRun view faults telling store before after (Some bytes) ⊤ had took status closed) where
+      on_store : (s : Bool) → store ≡ s → (HasNoFault closed.history.entries → ⊥) → store ≡ true
+      on_store true is some = is
+      on_store false is some = absurd (some (it.headline.history.3 (inr is)))
 
-  module _ (law : AcceptedAreTheFormats) (one : OneList) (none : NoCause) (writes : status ≡ WriteFault → ⊥) (disks : status ≡ DiskFault → ⊥) (doors : status ≡ DoorFault → ⊥)
-      (IsDone : Status → Type 0) (when_done : IsOr Done status → IsDone status) (when_full : status ≡ Full → (J : List Entry) → telling.full J → IsDone status) where
-    starved : (s : Bool) (case : Result Spelled AcceptStop) → IsOr Done status → IsOr Refused status → IsOr TapeRefused status → IsAnsweredCase IsDone s (view before) case status
-    starved s (Err why) done refused tape = refused
-    starved false (Ok case) done refused tape = when_done done
-    starved true (Ok case) done refused tape = λ told. record { empty = λ _. when_done done; goes_on = λ _ _ _ _. when_done done; refused = λ _ _ _. tape }
+      other : {named : Status} → (status ≡ named → ⊥) → IsOr named status → EndsRun way status
+      other never (inl e) = absurd (never e)
+      other never (inr e) = done_by way (inr e)
 
-    -- a run that is told was done
-    done_by : (closed : Closed) → TellsRun view faults telling store before after (Some bytes) ⊤ had took status closed → IsDone status
-    done_by closed it = by_due it.headline.report.0 it.headline.report.1
-        (due_or it.headline.report.0 (report_text it.case.nested it.case.cover closed.opening closed.history.entries) status had took writes it.headline.report.2)
-      where
-        by_due : (due : Status) → IsDueBy (HasNoFault closed.history.entries) (telling.full closed.history.entries) telling.door_failed due → IsOr due status → IsDone status
-        by_due due due_is (inr e) = when_done (inr e)
-        by_due due (all_done _ _ is) (inl e) = when_done (inl (e ∙ is))
-        by_due due (is_full _ all is) (inl e) = when_full (e ∙ is) closed.history.entries all
-        by_due due (door_failed _ _ _ is) (inl e) = absurd (doors (e ∙ is))
-        by_due due (disk_failed _ is) (inl e) = absurd (disks (e ∙ is))
+      not_refused : {cause : TapeCause} → RefusesTape it.case (view before).content cause → (view before).content ≢ []
+          → (((view before).content ≡ []) × (it.old ≡ [])) ⊎ StandsFor (digest_of it.case) it.old (view before).content → ⊥
+      not_refused refuses some (inl empty) = some empty.0
+      not_refused {cause} refuses some (inr stands) = gone_on_from one none it.case (view before).content cause it.old refuses stands it.few it.possible
 
-    ran : (s : Bool) (closed : Closed) → s ≡ store → (it : TellsRun view faults telling store before after (Some bytes) ⊤ had took status closed)
-        → IsAnsweredCase IsDone s (view before) (Ok it.case) status
-    ran false closed on it = done_by closed it
-    ran true closed on it = λ told. record {
-      empty = λ _. done_by closed it;
-      goes_on = λ _ _ _ _. done_by closed it;
-      refused = λ cause some refuses. absurd (not_refused refuses some (subst (λ s. BeginsWith s (digest_of it.case) (view before) it.old) (sym on) it.headline.history.0 told));
-    }
-      where
-        not_refused : {cause : TapeCause} → RefusesTape it.case (view before).content cause → (view before).content ≢ []
-            → (((view before).content ≡ []) × (it.old ≡ [])) ⊎ StandsFor (digest_of it.case) it.old (view before).content → ⊥
-        not_refused refuses some (inl empty) = some empty.0
-        not_refused {cause} refuses some (inr stands) = gone_on_from one none it.case (view before).content cause it.old refuses stands it.few it.possible
+      ran : (s : Bool) → s ≡ store → EndsRun way status → IsAnsweredCase (EndsRun way) s (view before) (Ok it.case) status
+      ran false on done = done
+      ran true on done = λ told. record {
+        empty = λ _. done;
+        goes_on = λ _ _ _ _. done;
+        refused = λ cause some refuses. absurd (not_refused refuses some (subst (λ s. BeginsWith s (digest_of it.case) (view before) it.old) (sym on) it.headline.history.0 told));
+      }
+
+      run_ended : IsEnded ⊥ (Said (Some closed)) Answered status had took
+      run_ended =
+          let due = it.headline.report.0 in let due_is = it.headline.report.1 in let J = closed.history.entries in
+          ended_with ⊥ (Said (Some closed)) Answered tt tt (by_due IsDue (λ _. tt) (λ _ _. tt) (λ _ _. tt) (λ _ _. tt) due_is) it.headline.report.2
+          (λ adds. by_due (Said (Some closed)) (λ some. on_store store refl some) (λ _ all. full_by way J all) (λ _ fell. (failed_by way fell, λ untold. let wrong : Some closed ≡ None = untold in cc))
+          (λ _ _. (report_text it.case.nested it.case.cover closed.opening J, adds.0, it.legal)) due_is)
+          (λ disks fell or. subst (λ r. IsAnsweredCase (EndsRun way) store (view before) r status) (sym (read_as view faults telling store before after law bytes ⊤ had took status closed it))
+          (ran store refl (by_due (λ s. IsOr s status → EndsRun way status) (λ _. other disks) (λ _ all. filled_by way J all) (λ _ _. other fell) (λ _ _. done_by way) due_is or)))
 
     -- a tape that is refused
-    tape_refused : (case : Spelled) → case_accepted bytes ≡ Ok case → IsTapeRefused bytes (view before) (view after) had took status
-        → IsAnsweredCase IsDone true (view before) (Ok case) status
-    tape_refused case is it = λ told.
-        let due = due_or TapeRefused (tape_line it.cause) status had took writes it.line in
-        let same : it.case ≡ case = one_case bytes case it.case is it.spelled in
-        let was = it.was told in
-        let here : RefusesTape case (view before).content it.cause = subst (λ l. RefusesTape case l it.cause) (sym was) (subst (λ c. RefusesTape c it.content it.cause) same it.stands) in
+    tape_refused : (it : IsTapeRefused bytes (view before) (view after) had took status) → IsOr TapeRefused status → IsAnsweredCase (EndsRun way) true (view before) (Ok it.case) status
+    tape_refused it or = λ told.
+        let was = it.shows.was told in
+        let here : RefusesTape it.case (view before).content it.cause = subst (λ l. RefusesTape it.case l it.cause) (sym was) it.shows.stands in
         record {
-          empty = λ empty. absurd (it.some (sym was ∙ empty));
-          goes_on = λ old stands few possible. absurd (gone_on_from one none case (view before).content it.cause old here stands few possible);
-          refused = λ _ _ _. due;
+          empty = λ empty. absurd (it.shows.some (sym was ∙ empty));
+          goes_on = λ old stands few possible. absurd (gone_on_from one none it.case (view before).content it.cause old here stands few possible);
+          refused = λ _ _ _. or;
         }
 
-    -- no run is told
-    told_none : (result : Result Spelled AcceptStop) → case_accepted bytes ≡ result → TellsNone store (view before) (view after) bytes had took status
-        → IsAnsweredCase IsDone store (view before) result status
-    told_none result is (is_starved it) = starved store result (inr it.0) (inr it.0) (inr it.0)
-    told_none (Err why) is (is_refused it) = due_or Refused (refusal_line it.why) status had took writes it.line
-    told_none (Ok case) is (is_refused it) = absurd (let wrong = sym is ∙ it.refuses in cc)
-    told_none result is (has_failed on fault nothing) = absurd (disks fault)
-    told_none (Err why) is (is_tape_refused on it) = absurd (let wrong = sym is ∙ it.spelled in cc)
-    told_none (Ok case) is (is_tape_refused on it) = subst (λ s. IsAnsweredCase IsDone s (view before) (Ok case) status) (sym on) (tape_refused case is it)
-
-    pub case_ends : (closed_run : Option Closed) → AnswersCase view faults telling store before after bytes had took status closed_run
-        → IsAnsweredCase IsDone store (view before) (case_accepted bytes) status
-    case_ends (Some closed) it =
-        let is = read_as view faults telling store before after law bytes ⊤ had took status closed it in
-        subst (λ c. IsAnsweredCase IsDone store (view before) c status) (sym is) (ran store closed refl it)
-    case_ends None it = told_none (case_accepted bytes) refl it
+    pub case_ended : (closed_run : Option Closed) → TellsCase view faults telling store before after bytes had took status closed_run → IsEnded ⊥ (Said closed_run) Answered status had took
+    case_ended (Some closed) it = run_ended closed it
+    case_ended None (has_failed on is nothing) =
+        ended_silent ⊥ (Said None) Answered nothing (λ e. let wrong : DiskFault ≡ WriteFault = sym is ∙ e in cc) (λ e. let wrong : DiskFault ≡ ReadFault = sym is ∙ e in cc) (subst (Said None) (sym is) on)
+        (λ _ disks. absurd (disks is))
+    case_ended None (is_tape_refused on it) =
+        ended_with ⊥ (Said None) Answered tt tt tt it.line
+        (λ adds. (on, (bytes, read, record { case = it.case; spelled = it.spelled; cause = it.cause; shows = it.shows; line = wrote_all refl adds })))
+        (λ _ _ or. subst (λ r. IsAnsweredCase (EndsRun way) store (view before) r status) (sym it.spelled)
+        (subst (λ s. IsAnsweredCase (EndsRun way) s (view before) (Ok it.case) status) (sym on) (tape_refused it or)))

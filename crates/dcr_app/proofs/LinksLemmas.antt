@@ -7,7 +7,8 @@ use Rattle.std.proofs.lemmas.List.{length-append}
 use Rattle.std.proofs.lemmas.Option.{slice_get-get_or}
 use Rattle.dcr_base.specs.Count.{Rose}
 use Rattle.dcr_base.specs.declared.status.Status.{Status}
-use Rattle.dcr_base.specs.declared.status.Status.TheVariants.{Done, NoMemory, DoorFault}
+use Rattle.dcr_base.specs.declared.status.Status.TheVariants.{Done, NoMemory, DiskFault, DoorFault}
+use Rattle.dcr_base.specs.declared.status.Status.TheVariants as status
 use Rattle.dcr_base.specs.Side.{Side, Stopped as StoppedText}
 use Rattle.dcr_graph.specs.declared.marking.Marking.{Marking}
 use Rattle.dcr_nest.specs.Nest.{Nest}
@@ -27,8 +28,9 @@ use Rattle.dcr_serving.specs.declared.end.LinkEnd.{LinkEnd}
 use Rattle.dcr_engine.specs.Served.{ServedIn, most_served}
 use Rattle.dcr_report.specs.Report.{report_text, version_text}
 use Rattle.dcr_app.specs.Outside.{Wrote}
-use Rattle.dcr_app.specs.Telling.{IsDueBy, IsOfLink, LeavesServed, all_done, disk_failed, door_failed, is_full}
+use Rattle.dcr_app.specs.Telling.{IsDueBy, IsOfLink, LeavesServed}
 use Rattle.dcr_base.specs.Door.{Doors}
+use Rattle.dcr_app.proofs.DueLemmas.{by_due}
 use Rattle.dcr_app.proofs.OutsideLemmas.{appends_nothing, wrote_at}
 use Rattle.dcr_app.proofs.RunLemmas.{entry_at, no_fault_done}
 
@@ -39,7 +41,7 @@ one_byte text rest =
     let all = length-append (text ++ 10 ∷ []) rest in let here = length-append text (10 ∷ []) in omega (arith, all, here)
 
 -- a report has some bytes
-some_bytes : (N : Nest) (C : Owners) (M : Marking) (J : List Entry) → 0 < length (report_text N C M J)
+pub some_bytes : (N : Nest) (C : Owners) (M : Marking) (J : List Entry) → 0 < length (report_text N C M J)
 unfolding report_text
 some_bytes N C M J = one_byte (version_text N.version) _
 
@@ -50,11 +52,10 @@ nothing_of N C M J had = record { count = 0; fewer = some_bytes N C M J; wrote =
 -- ---- the door
 
 -- a report that is due with the status of a failed door tells that it failed
-failed_due : {fine full failed : Type 0} (due : Status) → IsDueBy fine full failed due → due ≡ DoorFault → failed
-failed_due due (door_failed none room failed is) same = failed
-failed_due due (disk_failed some is) same = absurd (let wrong = sym same ∙ is in cc)
-failed_due due (is_full none full is) same = absurd (let wrong = sym same ∙ is in cc)
-failed_due due (all_done none room is) same = absurd (let wrong = sym same ∙ is in cc)
+failed_due : {fine full failed : Type 0} {due : Status} → IsDueBy fine full failed due → DoorFault ≡ due → failed
+failed_due {fine} {full} {failed} due_is same =
+    by_due (λ s. DoorFault ≡ s → failed) (λ _ e. absurd (let wrong : DoorFault ≡ DiskFault = e in cc)) (λ _ _ e. absurd (let wrong : DoorFault ≡ status.Full = e in cc)) (λ _ fell _. fell)
+    (λ _ _ e. absurd (let wrong : DoorFault ≡ Done = e in cc)) due_is same
 
 no_halt : {D : Type 0} (first : Option (Store D)) (J : List Entry) (halt : Halt) → HasNoFault J → (length J ≡ most_served → ⊥) → Shows first most_served J halt → ⊥
 no_halt first J (Full most) none room shows = room shows.1
@@ -89,18 +90,21 @@ module _ {D B L R : Type 0} (doors : Doors B L R) (first : Store D) (terms : Ter
   of_link k end there none room had cause.NoMemory is = had is
 
   pub leaves_door : (door_fell no_memory : Bool) (due : Status) (text : List ℕ) (status : Status) (had took : Side)
-      → DoorEnds doors before after sessions ends door_fell no_memory → (IsTrue no_memory → status ≡ NoMemory) → (status ≡ Done → door_fell ≡ false)
+      → DoorEnds doors before after sessions ends door_fell no_memory → (IsTrue no_memory → status ≡ NoMemory) → (due ≡ Done → door_fell ≡ false)
       → IsDueBy (HasNoFault J) (length J ≡ most_served) (Rose (doors.faults before) (doors.faults after)) due → Wrote due text status had took
       → LeavesServed doors before after sessions ends status
-  leaves_door door_fell no_memory due text status had took door wanted unfailed due_is wrote = record {
+  leaves_door door_fell no_memory due text status had took door wanted unfailed_due due_is wrote = record {
     left = door.left;
     all = all;
     by_links = λ done. by_each done;
     unfailed = λ done. door_fine door_fell (doors.faults before) (doors.faults after) door.counts (unfailed done);
-    failed = λ is. failed_due due due_is (sym (wrote_at due text status DoorFault had took is tt wrote).0);
+    failed = λ is. failed_due due_is (wrote_at DoorFault tt wrote is).0;
     never_falls = door_counts door_fell (doors.faults before) (doors.faults after) door.counts;
   }
     where
+      unfailed : status ≡ Done → door_fell ≡ false
+      unfailed done = unfailed_due (sym (wrote_at Done tt wrote done).0)
+
       remembered : status ≢ NoMemory → no_memory ≡ false
       remembered other = is_false no_memory (λ e. other (wanted e))
 
@@ -110,7 +114,7 @@ module _ {D B L R : Type 0} (doors : Doors B L R) (first : Store D) (terms : Ter
 
       by_each : status ≡ Done → All (λ (end : LinkEnd L R). IsOfLink end.end.cause) ends
       by_each done i d within =
-          let fine = no_fault_done due text status had took due_is wrote done in
+          let fine = no_fault_done due_is wrote done in
           let had_all = door.had (remembered (λ e. absurd (let wrong = sym done ∙ e in cc))) in
           let there : slice_get ends i ≡ Some (get_or ends i d) = slice_get-get_or ends i d within in
           of_link i (get_or ends i d) there fine.0 fine.1 (had_all i d within) (get_or ends i d).end.cause refl

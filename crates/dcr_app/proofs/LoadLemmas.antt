@@ -1,37 +1,35 @@
 -- What `load` tells.
-use Rattle.std.proofs.Common.{◌≡◌, ℕ, suc, ◌+◌, Bool, true, false, cond, not, List, [], ◌∷◌, length, map, drop, Option, Some, None, inl, inr, refl, sym, ap, subst, ◌∙◌, arith}
+use Rattle.std.proofs.Common.{◌≡◌, ℕ, suc, ◌+◌, Bool, true, false, cond, not, List, [], ◌∷◌, length, map, drop, Option, Some, None, inr, refl, sym, ap, subst, ◌∙◌, arith}
 use Rattle.std.specs.Prelude.{count_by, fold, slice_get, sum_by}
 use Rattle.std.proofs.lemmas.List.{length-append, length-map}
 use Rattle.std.proofs.lemmas.List.Sums.{sum_by-cons}
 use Rattle.dcr_base.specs.Disk.{DiskView}
 use Rattle.dcr_base.specs.Side.{Side}
 use Rattle.dcr_base.specs.declared.status.Status.{Status}
-use Rattle.dcr_base.specs.declared.status.Status.TheVariants.{Done, WriteFault, NoMemory}
+use Rattle.dcr_base.specs.declared.status.Status.TheVariants.{Done}
 use Rattle.dcr_graph.specs.Cause.{waits}
+use Rattle.dcr_graph.specs.GraphValue.{rules_of}
 use Rattle.dcr_graph.specs.Rules.{Rules}
 use Rattle.dcr_graph.specs.declared.marking.Marking.{Marking}
 use Rattle.dcr_set.specs.EventSet.{Set}
-use Rattle.dcr_journal.specs.Run.{HasNoFault, after, marks_at, numbered, told, told_next}
+use Rattle.dcr_journal.specs.Run.{after, marks_at, numbered, told, told_next}
 use Rattle.dcr_journal.specs.declared.call.Call.{Call}
 use Rattle.dcr_journal.specs.declared.call.Entry.{Entry}
 use Rattle.dcr_journal.specs.declared.closed.Closed.{Closed}
-use Rattle.dcr_tape.specs.declared.tape.Store.{Store}
-use Rattle.dcr_tape.specs.declared.tape.Store.TheVariants.{Off}
-use Rattle.dcr_engine.specs.Laws.{OrderedIsTold}
-use Rattle.dcr_engine.specs.Ran.{HasRun}
+use Rattle.dcr_json.specs.Built.{IsCase, case_of}
 use Rattle.dcr_json.specs.Judged.{Spelled}
+use Rattle.dcr_json.specs.declared.case.Case.{Case}
 use Rattle.dcr_replay.specs.EntryLines.{is_done}
 use Rattle.dcr_report.proofs.Passing.{drop_at_get}
 use Rattle.dcr_load.specs.Load.{load}
+use Rattle.dcr_app.specs.Adapted.{RanAlone}
 use Rattle.dcr_app.specs.Answers.{IsOr}
-use Rattle.dcr_app.specs.Headline.{cluster_in, rules_in}
+use Rattle.dcr_app.specs.Headline.{rules_in}
 use Rattle.dcr_app.specs.Loaded.{AnswersLoad, TellsLoad, count_done, load_line}
 use Rattle.dcr_app.specs.Outside.{Wrote}
 use Rattle.dcr_app.specs.Telling.{atoms_in}
-use Rattle.dcr_app.specs.declared.answer.Answer.{Answer}
 use Rattle.dcr_app.specs.declared.command.Command.TheVariants.{Load}
-use Rattle.dcr_app.proofs.OutsideLemmas.{HasEnded, adds_nothing, by_starved, by_wrote, due_or, ended_silent, ended_with}
-use Rattle.dcr_app.proofs.OverLemmas.{off_stands}
+use Rattle.dcr_app.proofs.OutsideLemmas.{IsEnded, ended_starved, ended_with}
 use Rattle.dcr_app.proofs.SaysLemmas.{SaysAt}
 
 -- ---- how many entries there are
@@ -81,49 +79,30 @@ counted_next J place entry here =
 abbrev pub HaveAllCalls : Type 0
 HaveAllCalls = (number : ℕ) → sum_by length (load number).sessions ≡ 20000
 
-pub tells_load : {D : Type 0} (view : D → DiskView) (faults : D → ℕ) → OrderedIsTold → HaveAllCalls → (number : ℕ) (case : Spelled) (before : D) (closed : Closed) (last : Store D)
-    (had took : Side) (status : Status) → case ≡ load number → HasRun view faults (cluster_in case []) (Off before) 1 case.sessions closed last
-    → Wrote Done (load_line number (atoms_in case) closed.history.entries closed.waits) status had took → TellsLoad number had took status closed
-tells_load view faults ordered all number case before closed last had took status is ran wrote =
-    let J = closed.history.entries in
-    let told_it = subst (λ (c : Spelled). J ≡ told (rules_in c) c.cover.owned c.opening c.sessions) is history in record {
-      opening = ran.whole.opening ∙ ap (λ (c : Spelled). c.opening) is;
+pub tells_load : HaveAllCalls → (number : ℕ) (case : Case) (closed : Closed) (had took : Side) (status : Status) → IsCase case → case_of case ≡ load number
+    → RanAlone case.graph case.cover.owned case.opening case.sessions closed → Wrote Done (load_line number case.graph.names closed.history.entries closed.waits) status had took
+    → TellsLoad number had took status closed
+tells_load all number case closed had took status fits is ran wrote =
+    let J = closed.history.entries in let C = case.cover.owned in let M = case.opening in let sessions = case.sessions in
+    let history = ran.history ∙ ap (λ (R : Rules). told R C M sessions) fits.flat.related in
+    let told_it = subst (λ (c : Spelled). J ≡ told (rules_in c) c.cover.owned c.opening c.sessions) is history in
+    let end = ap (λ (N : Marking). after (rules_of case.graph) N J) ran.opening in
+    let marks = ran.run.marks ∙ (ap (λ (N : Marking). marks_at (rules_of case.graph) C N) end ∙ ap (λ (R : Rules). marks_at R C (after R M J)) fits.flat.related) in
+    let waited = ran.run.waits ∙ (ap (λ (N : Marking). waits (length case.graph.names) N) end ∙ ap (λ (R : Rules). waits R.atoms (after R M J)) fits.flat.related) in
+    record {
+      opening = ran.opening ∙ ap (λ (c : Spelled). c.opening) is;
       history = told_it;
       entries = ap (λ (K : List Entry). length K) told_it ∙ length-told (rules_in (load number)) (load number).cover.owned (load number).opening (load number).sessions ∙ all number;
-      marks = subst (λ (c : Spelled). closed.marks ≡ marks_at (rules_in c) c.cover.owned (after (rules_in c) c.opening J)) is ran.whole.marks;
-      waits = subst (λ (c : Spelled). closed.waits ≡ waits (rules_in c).atoms (after (rules_in c) c.opening J)) is ran.whole.waits;
-      wrote = subst (λ (c : Spelled). Wrote Done (load_line number (atoms_in c) closed.history.entries closed.waits) status had took) is wrote;
+      marks = subst (λ (c : Spelled). closed.marks ≡ marks_at (rules_in c) c.cover.owned (after (rules_in c) c.opening J)) is marks;
+      waits = subst (λ (c : Spelled). closed.waits ≡ waits (rules_in c).atoms (after (rules_in c) c.opening J)) is waited;
+      wrote = subst (λ (c : Spelled). Wrote Done (load_line number (atoms_in c) J closed.waits) status had took) is
+          (subst (λ (names : List (List ℕ)). Wrote Done (load_line number names J closed.waits) status had took) fits.flat.names wrote);
     }
-  where
-    none : HasNoFault closed.history.entries
-    none = (off_stands view faults before closed.history.entries last ran.whole.stored).1
-
-    history : closed.history.entries ≡ told (rules_in case) case.cover.owned case.opening case.sessions
-    history =
-        ordered (rules_in case) case.cover.owned case.opening case.sessions closed.history.entries ran.whole.legal none ran.in_order (ran.calls.all none) ran.calls.no_other
-
--- what an answer tells
-pub load_told : (number : ℕ) (had took : Side) (status : Status) (closed : Closed) (end : Answer) → end ≡ record { status = status; closed = Some closed } → TellsLoad number had took status closed
-    → AnswersLoad number had took end.status end.closed
-load_told number had took status closed end is it = subst (λ (e : Answer). AnswersLoad number had took e.status e.closed) (sym is) it
-
-pub load_starved : (number : ℕ) (had : Side) (end : Answer) → end ≡ record { status = NoMemory; closed = None } → AnswersLoad number had had end.status end.closed
-load_starved number had end is = subst (λ (e : Answer). AnswersLoad number had had e.status e.closed) (sym is) (refl, adds_nothing had)
 
 -- ---- how it ended
 
-pub load_ended : (number : ℕ) (had took : Side) (status : Status) (closed_run : Option Closed) → AnswersLoad number had took status closed_run → HasEnded status had took
-load_ended number had took status None it = ended_silent (inl it.0) it.1
-load_ended number had took status (Some closed) it = ended_with Done (load_line number (atoms_in (load number)) closed.history.entries closed.waits) tt it.wrote
-
--- what the status says
-pub load_says : (number : ℕ) (before after : DiskView) (left : Option (List ℕ)) (had took : Side) (status : Status) (closed_run : Option Closed) → AnswersLoad number had took status closed_run
-    → SaysAt (Some (Load number)) before after left had took closed_run status
-load_says number before after left had took status None it = by_starved (SaysAt (Some (Load number)) before after left had took None) tt status had took it
-load_says number before after left had took status (Some closed) it =
-    by_wrote (SaysAt (Some (Load number)) before after left had took (Some closed)) tt tt Done (load_line number (atoms_in (load number)) closed.history.entries closed.waits) status had took it.wrote (λ adds. tt)
-
--- what an output that doesn't fail ends with
-pub load_ends : (number : ℕ) (had took : Side) (status : Status) (closed_run : Option Closed) → (status ≡ WriteFault → ⊥) → AnswersLoad number had took status closed_run → IsOr Done status
-load_ends number had took status None writes it = inr it.0
-load_ends number had took status (Some closed) writes it = due_or Done (load_line number (atoms_in (load number)) closed.history.entries closed.waits) status had took writes it.wrote
+pub load_ended : (number : ℕ) (before after : DiskView) (left : Option (List ℕ)) (had took : Side) (status : Status) (closed_run : Option Closed) → AnswersLoad number had took status closed_run
+    → IsEnded ⊥ (SaysAt (Some (Load number)) before after left had took closed_run) (IsOr Done status) status had took
+load_ended number before after left had took status None it = ended_starved ⊥ (SaysAt (Some (Load number)) before after left had took None) (IsOr Done status) tt it (inr it.0)
+load_ended number before after left had took status (Some closed) it =
+    ended_with ⊥ (SaysAt (Some (Load number)) before after left had took (Some closed)) (IsOr Done status) tt tt tt it.wrote (λ adds. tt) (λ _ _ or. or)

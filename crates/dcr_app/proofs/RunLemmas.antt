@@ -1,5 +1,5 @@
 -- What the run of a case is told by.
-use Rattle.std.proofs.Common.{◌≡◌, ◌≢◌, ◌⊎◌, ℕ, ◌<◌, ◌≤◌, arith, Bool, true, false, List, length, Option, Some, None, Result, Ok, Err, inl, inr, refl, sym, ap, subst, ◌∙◌, cond}
+use Rattle.std.proofs.Common.{◌≡◌, ◌⊎◌, ℕ, ◌<◌, ◌≤◌, arith, Bool, true, false, List, length, Option, Some, None, Result, Ok, Err, inl, inr, refl, sym, ap, subst, ◌∙◌, cond}
 use Rattle.std.specs.Prelude.{◌↔◌, ⊤, slice_get}
 use Rattle.std.specs.List.{All}
 use Rattle.std.proofs.lemmas.Bool.{lt-leb}
@@ -9,9 +9,10 @@ use Rattle.dcr_base.specs.Disk.{DiskView}
 use Rattle.dcr_base.specs.Side.{Side}
 use Rattle.dcr_graph.specs.Projection.{HasRoom}
 use Rattle.dcr_graph.specs.Cause.{waits}
+use Rattle.dcr_graph.specs.Rules.{Rules}
 use Rattle.dcr_graph.specs.declared.marking.Marking.{Marking}
 use Rattle.dcr_base.specs.declared.status.Status.{Status}
-use Rattle.dcr_base.specs.declared.status.Status.TheVariants.{Done, Refused}
+use Rattle.dcr_base.specs.declared.status.Status.TheVariants.{Done, DiskFault, Full, DoorFault}
 use Rattle.dcr_journal.specs.Run.{after, marks_at, told, HasNoFault, IsLegal}
 use Rattle.dcr_journal.specs.declared.call.Call.{Call}
 use Rattle.dcr_journal.specs.declared.call.Entry.{Entry}
@@ -24,28 +25,27 @@ use Rattle.dcr_tape.specs.Opening.{most_records}
 use Rattle.dcr_cell.specs.Stored.{IsTaped}
 use Rattle.dcr_work.specs.Order.{IsInWorkerOrder}
 use Rattle.dcr_engine.specs.Laws.{OrderedIsTold}
-use Rattle.dcr_reading.specs.Accepted.{IsAcceptedGraph, IsAcceptedCover}
 use Rattle.dcr_replay.specs.Laws.{IsReport}
 use Rattle.dcr_report.specs.Report.{report_text}
 use Rattle.dcr_shape.specs.Stages.{◌>>=◌}
 use Rattle.dcr_json.specs.Case.{file_in}
+use Rattle.dcr_json.specs.Built.{IsCase}
 use Rattle.dcr_json.specs.Judged.{Spelled}
+use Rattle.dcr_json.specs.declared.case.Case.{Case}
 use Rattle.dcr_json.specs.declared.case.CaseStop.{CaseStop}
 use Rattle.dcr_json.specs.declared.case.CaseStop.TheVariants as stop
 use Rattle.serde_json.specs.Data.{Data}
 use Rattle.dcr_policy.specs.Roles.{Roles}
-use Rattle.dcr_roles.specs.Accepted.{HadMemory, SpelledBoth, WantedMemory, accepted_in, case_accepted, of_case}
+use Rattle.dcr_roles.specs.Accepted.{SpelledBoth, accepted_in, case_accepted, of_case}
 use Rattle.dcr_roles.specs.Laws.{AcceptedAreTheFormats, AcceptsCase, SpellsBoth}
 use Rattle.dcr_roles.specs.declared.accepted.AcceptStop.{AcceptStop}
 use Rattle.dcr_roles.specs.declared.accepted.AcceptStop.TheVariants as accept
-use Rattle.dcr_roles.specs.declared.stop.PolicyStop.{PolicyStop}
-use Rattle.dcr_roles.specs.declared.stop.PolicyStop.TheVariants as policy_stop
-use Rattle.dcr_app.specs.Answers.{AnswersCase, IsDoneThroughout, IsRefused, IsToldByOne, TellsRun}
+use Rattle.dcr_app.specs.Answers.{IsDoneThroughout, IsToldByOne, TellsCase, TellsRun}
 use Rattle.dcr_app.specs.Headline.{BeginsWith, Headline, digest_of, rules_in}
-use Rattle.dcr_app.specs.Outside.{IsStarved, WereLeft, Wrote}
-use Rattle.dcr_app.specs.Refusal.{refusal_line}
-use Rattle.dcr_app.specs.Stored.{KeepsRun, RanOver}
-use Rattle.dcr_app.specs.Telling.{IsDueBy, Telling, all_done, by_workers, disk_failed, door_failed, is_full}
+use Rattle.dcr_app.specs.Outside.{WereLeft, Wrote}
+use Rattle.dcr_app.specs.Stored.{IsRunOn, KeepsRun, RanOver}
+use Rattle.dcr_app.specs.Telling.{IsDueBy, Telling, by_workers}
+use Rattle.dcr_app.proofs.DueLemmas.{by_due}
 use Rattle.dcr_app.proofs.OutsideLemmas.{wrote_at}
 
 -- ---- what is accepted
@@ -72,20 +72,20 @@ cases_are_accepted law bytes case = (λ is. accepted_at (accepted_in bytes) refl
 -- ---- a run of the case
 
 -- with Done nothing failed
-pub no_fault_done : {fine full failed : Type 0} (due : Status) (text : List ℕ) (status : Status) (had took : Side) → IsDueBy fine full failed due → Wrote due text status had took
+pub no_fault_done : {fine full failed : Type 0} {due : Status} {text : List ℕ} {status : Status} {had took : Side} → IsDueBy fine full failed due → Wrote due text status had took
     → status ≡ Done → fine × (full → ⊥)
-no_fault_done due text status had took (all_done none room is) line done = (none, room)
-no_fault_done due text status had took (disk_failed some is) line done = absurd (let wrong = (wrote_at due text status Done had took done tt line).0 ∙ is in cc)
-no_fault_done due text status had took (is_full none full is) line done = absurd (let wrong = (wrote_at due text status Done had took done tt line).0 ∙ is in cc)
-no_fault_done due text status had took (door_failed none room failed is) line done = absurd (let wrong = (wrote_at due text status Done had took done tt line).0 ∙ is in cc)
+no_fault_done {fine} {full} due_is wrote done =
+    by_due (λ s. Done ≡ s → fine × (full → ⊥)) (λ some e. absurd (let wrong : Done ≡ DiskFault = e in cc)) (λ none all e. absurd (let wrong : Done ≡ Full = e in cc))
+    (λ none fell e. absurd (let wrong : Done ≡ DoorFault = e in cc)) (λ none room e. (none, room)) due_is (wrote_at Done tt wrote done).0
 
 -- the headline of the run of a case that these bytes spell
 pub tells_run : {D : Type 0} (view : D → DiskView) (faults : D → ℕ) → AcceptedAreTheFormats → (telling : Telling D) (store : Bool) (before after_it : D) (bytes : List ℕ) (case : Spelled) (policy : Roles)
-    (old : List TapeEntry) (first : Store D) (had took : Side) (status : Status) (closed : Closed) → accepted_in bytes ≡ Ok (record { case = case; policy = policy }) → length old ≤ most_records
-    → BeginsWith store (digest_of case) (view before) old → RanOver view faults telling case policy old first after_it had took status closed
+    (old : List TapeEntry) (first : Store D) (had took : Side) (status : Status) (due : Status) (closed : Closed) → accepted_in bytes ≡ Ok (record { case = case; policy = policy }) → length old ≤ most_records
+    → BeginsWith store (digest_of case) (view before) old → RanOver view faults telling case policy old first after_it due closed
+    → Wrote due (report_text case.nested case.cover closed.opening closed.history.entries) status had took
     → KeepsRun store view faults (digest_of case) old closed.history.entries before after_it → (store ≡ false → HasNoFault closed.history.entries) → (IsTaped (Some first) → store ≡ true)
     → TellsRun view faults telling store before after_it (Some bytes) ⊤ had took status closed
-tells_run view faults law telling store before after_it bytes case policy old first had took status closed spelled few begins over keeps unstored taped =
+tells_run view faults law telling store before after_it bytes case policy old first had took status due closed spelled few begins over wrote keeps unstored taped =
     let G = rules_in case in let C = case.cover.owned in let J = closed.history.entries in
     let whole = over.whole in
     let Legal : Marking → Type 0 = λ M. IsLegal G C M J in record {
@@ -102,31 +102,30 @@ tells_run view faults law telling store before after_it bytes case policy old fi
         sessions = over.sessions;
         order = over.order;
         sites = (whole.marks ∙ ap (λ M. marks_at G C (after G M J)) (sym whole.opening), whole.waits ∙ ap (λ M. waits G.atoms (after G M J)) (sym whole.opening));
-        report = over.report;
+        report = (due, over.due_is, wrote);
       };
       legal = over.legal;
       disk = keeps;
     }
   where
     no_fault : (status ≡ Done) ⊎ (store ≡ false) → HasNoFault closed.history.entries
-    no_fault (inl done) = (no_fault_done over.report.0 (report_text case.nested case.cover closed.opening closed.history.entries) status had took over.report.1 over.report.2 done).0
+    no_fault (inl done) = (no_fault_done over.due_is wrote done).0
     no_fault (inr off) = unstored off
 
 -- the report of a run is the report of a legal history
-pub report_of_run : (case : Spelled) (closed : Closed) (most : ℕ) → IsAcceptedGraph case.nested.version case.nested → IsAcceptedCover case.nested case.cover
-    → HasRoom (rules_in case).atoms closed.opening → most ≤ 1024
-    → IsLegal (rules_in case) case.cover.owned closed.opening closed.history.entries → All (λ (entry : Entry). entry.session < most) closed.history.entries
-    → length closed.history.entries ≤ 200000 → IsReport (report_text case.nested case.cover closed.opening closed.history.entries) (length closed.history.entries)
-report_of_run case closed most graph cover opening few legal sessions entries =
+pub report_of_run : (case : Case) (closed : Closed) (most : ℕ) → IsCase case → IsRunOn case.graph case.cover.owned closed → most ≤ 1024
+    → All (λ (entry : Entry). entry.session < most) closed.history.entries → length closed.history.entries ≤ 200000
+    → IsReport (report_text case.nested case.cover closed.opening closed.history.entries) (length closed.history.entries)
+report_of_run case closed most is run few sessions entries =
     record {
       nest = case.nested;
       cover = case.cover;
       opening = closed.opening;
       history = closed.history.entries;
-      accepted_graph = graph;
-      accepted_cover = cover;
-      room = opening;
-      legal = legal;
+      accepted_graph = is.accepted_graph;
+      accepted_cover = is.accepted_cover;
+      room = subst (λ (G : Rules). HasRoom G.atoms closed.opening) is.flat.related run.room;
+      legal = subst (λ (G : Rules). IsLegal G case.cover.owned closed.opening closed.history.entries) is.flat.related run.legal;
       most_entries = entries;
       sessions = All-weaker (λ (entry : Entry). entry.session < most) (λ (entry : Entry). entry.session < 1024)
           (λ entry below. omega (arith, below, few)) closed.history.entries sessions;
@@ -149,32 +148,6 @@ stops_both o f why is = ap (λ r. of_case r >>= f) is
 pub too_long : (bytes : List ℕ) → 16777216 < length bytes → case_accepted bytes ≡ Err (accept.Case stop.TooLong)
 unfolding accepted_in
 too_long bytes more = case_of_stop bytes (accept.Case stop.TooLong) (stops_both (file_in bytes) _ stop.TooLong (long_file bytes more))
-
--- whether a refusal is want of memory
-case_memory : (why : CaseStop) → (why ≡ stop.NoMemory) ⊎ (why ≢ stop.NoMemory)
-case_memory stop.NoMemory = inl refl
-case_memory stop.TooLong = inr (λ e. cc)
-case_memory stop.NotJson = inr (λ e. cc)
-case_memory (stop.Shape part index) = inr (λ e. cc)
-case_memory (stop.Limit kind count) = inr (λ e. cc)
-case_memory (stop.EventName i) = inr (λ e. cc)
-case_memory (stop.Parent i) = inr (λ e. cc)
-case_memory (stop.MarkOnNest i) = inr (λ e. cc)
-case_memory (stop.RelationEnd i) = inr (λ e. cc)
-case_memory (stop.Clash a b) = inr (λ e. cc)
-case_memory (stop.SiteName i) = inr (λ e. cc)
-case_memory (stop.Owned i j) = inr (λ e. cc)
-case_memory (stop.Uncovered a) = inr (λ e. cc)
-case_memory (stop.CallLine k j) = inr (λ e. cc)
-
-policy_memory : (why : PolicyStop) → (why ≡ policy_stop.NoMemory) ⊎ (why ≢ policy_stop.NoMemory)
-policy_memory policy_stop.NoMemory = inl refl
-policy_memory (policy_stop.Policy part index) = inr (λ e. cc)
-policy_memory (policy_stop.Denied k j role) = inr (λ e. cc)
-
-pub is_memory : (why : AcceptStop) → WantedMemory why ⊎ HadMemory why
-is_memory (accept.Case why) = case_memory why
-is_memory (accept.Policy why) = policy_memory why
 
 -- ---- the case that is told
 
@@ -209,27 +182,10 @@ module _ {D : Type 0} (view : D → DiskView) (faults : D → ℕ) (telling : Te
       ap case_accepted it.headline.input.1
       ∙ case_of_both it.headline.input.0 (record { case = it.case; policy = it.policy }) ((law it.headline.input.0 (record { case = it.case; policy = it.policy })).1 it.headline.input.2)
 
--- bytes that are refused, or for which memory ran out
-pub stopped_run : (bytes : List ℕ) (why : AcceptStop) (had took : Side) (status : Status) → (HadMemory why → case_accepted bytes ≡ Err why)
-    → (HadMemory why → IsStarved status had took ⊎ Wrote Refused (refusal_line why) status had took) → (WantedMemory why → IsStarved status had took)
-    → IsStarved status had took ⊎ IsRefused bytes had took status
-stopped_run bytes why had took status refuses line starved = elim (is_memory why) [
-  | inl e ↦ inl (starved e)
-  | inr e ↦ elim (line e) [
-    | inl it ↦ inl it
-    | inr it ↦ inr (record { why = why; refuses = refuses e; named = e; line = it })
-  ]
-]
-
 -- ---- one case
 
-case_or : Spelled → Result Spelled AcceptStop → Spelled
-case_or other (Ok case) = case
-case_or other (Err why) = other
-
-pub one_case : (bytes : List ℕ) (case other : Spelled) → case_accepted bytes ≡ Ok case → case_accepted bytes ≡ Ok other → other ≡ case
-unfolding case_or
-one_case bytes case other is also = ap (case_or case) (sym also ∙ is)
+pub one_ok : {A E : Type 0} (r : Result A E) (x y : A) → r ≡ Ok x → r ≡ Ok y → x ≡ y
+one_ok {A} {E} r x y is also = let same : ◌≡◌ {A = Result A E} (Ok x) (Ok y) = sym is ∙ also in cc
 
 -- ---- the told run
 
@@ -253,9 +209,9 @@ module _ {D : Type 0} (view : D → DiskView) (faults : D → ℕ) (law : Accept
     (had took : Side) (status : Status) where
   same_case : (bytes : List ℕ) (case : Spelled) (closed : Closed) → case_accepted bytes ≡ Ok case
       → (it : TellsRun view faults (by_workers workers) store before end (Some bytes) ⊤ had took status closed) → it.case ≡ case
-  same_case bytes case closed is it = one_case bytes case it.case is (read_as view faults (by_workers workers) store before end law bytes ⊤ had took status closed it)
+  same_case bytes case closed is it = one_ok (case_accepted bytes) it.case case (read_as view faults (by_workers workers) store before end law bytes ⊤ had took status closed it) is
 
-  pub told_by_one : (bytes : List ℕ) (closed_run : Option Closed) → AnswersCase view faults (by_workers workers) store before end bytes had took status closed_run
+  pub told_by_one : (bytes : List ℕ) (closed_run : Option Closed) → TellsCase view faults (by_workers workers) store before end bytes had took status closed_run
       → IsToldByOne workers (Some bytes) closed_run
   told_by_one bytes None it = λ case is. tt
   told_by_one bytes (Some closed) it = λ case is one none.
@@ -264,7 +220,7 @@ module _ {D : Type 0} (view : D → DiskView) (faults : D → ℕ) (law : Accept
       (subst (λ w. IsInWorkerOrder w J) one it.headline.order) none
       ∙ ap (λ (c : Spelled). told (rules_in c) c.cover.owned closed.opening c.sessions) (same_case bytes case closed is it)
 
-  pub done_throughout : (bytes : List ℕ) (closed_run : Option Closed) → AnswersCase view faults (by_workers workers) store before end bytes had took status closed_run
+  pub done_throughout : (bytes : List ℕ) (closed_run : Option Closed) → TellsCase view faults (by_workers workers) store before end bytes had took status closed_run
       → IsDoneThroughout (Some bytes) closed_run
   done_throughout bytes None it = λ case events executions is one spell. tt
   done_throughout bytes (Some closed) it = λ case events executions is one spell run none.

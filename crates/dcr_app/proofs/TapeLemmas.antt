@@ -1,5 +1,5 @@
 -- What a run over a tape, or a refusal of one, leaves on the disk.
-use Rattle.std.proofs.Common.{◌≡◌, ◌≢◌, ◌⊎◌, inl, inr, ℕ, ◌≤◌, ◌+◌, Bool, true, false, IsTrue, List, [], ◌∷◌, ◌++◌, length, take, Option, Some, None, Ok, IfSome, refl, sym, ap, subst, ◌∙◌, arith}
+use Rattle.std.proofs.Common.{◌≡◌, ◌≢◌, ◌⊎◌, inl, inr, ℕ, ◌≤◌, ◌+◌, Bool, true, false, IsTrue, List, [], ◌∷◌, ◌++◌, length, take, Option, Some, None, Ok, refl, sym, ap, subst, ◌∙◌, arith}
 use Rattle.std.proofs.lemmas.List.{append_assoc, take-append-le, take_all}
 use Rattle.dcr_base.specs.Count.{Rose}
 use Rattle.dcr_base.specs.Disk.{DiskView, IsSteady, LeavesOnly}
@@ -22,8 +22,8 @@ use Rattle.dcr_cell.specs.Stored.{StandsForSome, TapeStands, executions, failed_
 use Rattle.dcr_json.specs.Judged.{Spelled}
 use Rattle.dcr_roles.specs.Accepted.{case_accepted}
 use Rattle.dcr_app.specs.Headline.{StoodFor, digest_of}
+use Rattle.dcr_app.specs.Outside.{WereLeft}
 use Rattle.dcr_app.specs.Stored.{CallsDisk, HasKept, IsMaking, KeepsContent, LeavesDisk, StandsStill, StaysSettled, as_it_was, was_empty, was_its_tape}
-use Rattle.dcr_app.specs.Telling.{IsDueBy, all_done, disk_failed, door_failed, is_full}
 
 -- ---- contents
 
@@ -75,14 +75,14 @@ uncalled_by true view faults left before after status closed_run same fine = unc
 uncalled_by false view faults left before after status closed_run same fine = same
 
 -- what is said of bytes holds of the input that had them left
-pub content_left : (left : Option (List ℕ)) (bytes : List ℕ) (before after : DiskView) → IfSome left (λ it. bytes ≡ it) → KeepsContent (Some bytes) before after → KeepsContent left before after
+pub content_left : (left : Option (List ℕ)) (bytes : List ℕ) (before after : DiskView) → WereLeft left bytes → KeepsContent (Some bytes) before after → KeepsContent left before after
 content_left left bytes before after all (as_it_was told same) = as_it_was told same
 content_left left bytes before after all (was_empty none) = was_empty none
-content_left (Some it) bytes before after all (was_its_tape found read case spelled old stands) = was_its_tape found (sym all ∙ read) case spelled old stands
+content_left (Some it) bytes before after all (was_its_tape found read case spelled old stands) = was_its_tape found (all ∙ read) case spelled old stands
 content_left None bytes before after all (was_its_tape found read case spelled old stands) = was_its_tape found tt case spelled old stands
 
 pub disk_left : {D : Type 0} (store : Bool) (view : D → DiskView) (faults : D → ℕ) (left : Option (List ℕ)) (bytes : List ℕ) (before after : D) (status : Status) (closed_run : Option Closed)
-    → IfSome left (λ it. bytes ≡ it) → LeavesDisk store view faults (Some bytes) before after status closed_run → LeavesDisk store view faults left before after status closed_run
+    → WereLeft left bytes → LeavesDisk store view faults (Some bytes) before after status closed_run → LeavesDisk store view faults left before after status closed_run
 disk_left true view faults left bytes before after status closed_run all it = record {
   never_falls = it.never_falls;
   counted = it.counted;
@@ -230,13 +230,6 @@ module _ {D : Type 0} (view : D → DiskView) (faults : D → ℕ) (one : OneLis
       failed = λ some. let stopped = stands.has_stopped some in
           (subst (λ n. n ≤ faults last.disk) same_faults stopped.no_fewer, subst (λ n. Rose n (faults last.disk)) same_faults stopped.rose);
     }
-
--- whether an execution failed, by the status that is due
-pub either_way : {fine full failed : Type 0} (due : Status) → IsDueBy fine full failed due → fine ⊎ (fine → ⊥)
-either_way due (disk_failed some is) = inr some
-either_way due (is_full none full is) = inl none
-either_way due (door_failed none room failed is) = inl none
-either_way due (all_done none room is) = inl none
 
 -- ---- a disk that was not opened as a tape
 

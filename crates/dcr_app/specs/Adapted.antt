@@ -1,6 +1,6 @@
 -- What `adapt` answers: the reports of stages, each of which goes on from where the one before it ended, or why the input is
 -- refused.
-use Rattle.std.specs.Prelude.{◌≡◌, ◌≢◌, ◌⊎◌, ℕ, zero, suc, ◌+◌, ◌-◌, ◌<◌, ◌≤◌, List, [], ◌∷◌, ◌++◌, codes, decimal, flat_map, length, map, take, Option, Some, None, Result, Ok, Err, IfSome}
+use Rattle.std.specs.Prelude.{◌≡◌, ◌⊎◌, ℕ, zero, suc, ◌+◌, ◌-◌, ◌<◌, ◌≤◌, List, [], ◌∷◌, ◌++◌, codes, decimal, flat_map, length, map, take, Option, Some, None, Result, Ok, Err, IfSome}
 use Rattle.std.specs.Io.KnownBytes.{Appends}
 use Rattle.std.specs.List.{All, slice_get}
 use Rattle.dcr_base.specs.Side.{Side}
@@ -9,9 +9,8 @@ use Rattle.dcr_base.specs.declared.status.Status.TheVariants.{Done, Refused, Wri
 use Rattle.dcr_set.specs.EventSet.{Set}
 use Rattle.dcr_graph.specs.Cause.{waits}
 use Rattle.dcr_graph.specs.GraphValue.{Flat, rules_of}
-use Rattle.dcr_graph.specs.Projection.{HasRoom}
 use Rattle.dcr_graph.specs.declared.marking.Marking.{Marking}
-use Rattle.dcr_journal.specs.Run.{IsLegal, after, marks_at, told}
+use Rattle.dcr_journal.specs.Run.{after, marks_at, told}
 use Rattle.dcr_journal.specs.declared.call.Call.{Call}
 use Rattle.dcr_journal.specs.declared.call.Entry.{Entry}
 use Rattle.dcr_journal.specs.declared.closed.Closed.{Closed}
@@ -23,8 +22,9 @@ use Rattle.dcr_adapt.specs.Stages.{stages_in}
 use Rattle.dcr_adapt.specs.declared.stop.StageStop.{StageStop}
 use Rattle.dcr_adapt.specs.declared.stop.StageStop.TheVariants as stage
 use Rattle.dcr_app.specs.Headline.{rules_in}
-use Rattle.dcr_app.specs.Outside.{IsStarved, Wrote}
+use Rattle.dcr_app.specs.Outside.{Wrote}
 use Rattle.dcr_app.specs.Refusal.{case_line, policy_line}
+use Rattle.dcr_app.specs.Stored.{IsRunOn}
 use Rattle.dcr_app.specs.Telling.{atoms_in}
 
 -- ---- a stage
@@ -106,13 +106,6 @@ stage_line (stage.Policy i why) = codes "case " ++ decimal i ++ codes " " ++ pol
 stage_line (stage.Dropped i name) = codes "case " ++ decimal i ++ codes " refused 13 dropped " ++ name ++ codes "\n"
 stage_line stage.NoMemory = []
 
--- the bytes are refused, and the line of the first refusal was due
-pub record IsRefusedAdapt (bytes : List ℕ) (had took : Side) (status : Status) : Type 0 where
-  pub why : StageStop
-  pub refuses : stages_in bytes ≡ Err why
-  pub named : why ≢ stage.NoMemory
-  pub line : Wrote Refused (stage_line why) status had took
-
 -- ---- answers
 
 -- The stages that the bytes spell, one in each line, were run, one after the other, and their reports were due.
@@ -122,11 +115,6 @@ pub record TellsStages (bytes : List ℕ) (had took : Side) (status : Status) (c
   pub first : BeginsAsWritten stages
   pub next : GoesOn stages
   pub runs : RunsStages stages None had took status closed_run
-
--- else nothing was written, or the bytes are refused, and no run is told
-abbrev pub AnswersStages : List ℕ → Side → Side → Status → Option Closed → Type 0
-AnswersStages bytes had took status closed_run =
-    ((closed_run ≡ None) × (IsStarved status had took ⊎ IsRefusedAdapt bytes had took status)) ⊎ TellsStages bytes had took status closed_run
 
 -- what was written with Done are reports of legal histories, each of which `replay` finds valid by itself
 pub record WroteReports (had took : Option (List ℕ)) : Type 0 where
@@ -153,12 +141,9 @@ stages_from case M (next ∷ rest) =
     s ∷ stages_from next (carried (atoms_in case) (ending_of s) (atoms_in next) next.opening) rest
 
 -- what is told of a run of these sessions on the sites of a graph, from M
-pub record RanStage (graph : Flat) (C : List Set) (M : Marking) (sessions : List (List Call)) (closed : Closed) : Type 0 where
+pub record RanAlone (graph : Flat) (C : List Set) (M : Marking) (sessions : List (List Call)) (closed : Closed) : Type 0 where
   pub opening : closed.opening ≡ M
   pub history : closed.history.entries ≡ told (rules_of graph) C M sessions
-  pub room : HasRoom (length graph.names) closed.opening
-  pub legal : IsLegal (rules_of graph) C closed.opening closed.history.entries
+  pub run : IsRunOn graph C closed
   pub few : length closed.history.entries ≤ 200000
   pub no_other : All (λ (entry : Entry). entry.session < length sessions) closed.history.entries
-  pub marks : closed.marks ≡ marks_at (rules_of graph) C (after (rules_of graph) closed.opening closed.history.entries)
-  pub waits : closed.waits ≡ waits (length graph.names) (after (rules_of graph) closed.opening closed.history.entries)

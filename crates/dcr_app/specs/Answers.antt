@@ -5,8 +5,7 @@ use Rattle.std.specs.List.{All}
 use Rattle.dcr_base.specs.Disk.{DiskView}
 use Rattle.dcr_base.specs.Side.{Adds, Side}
 use Rattle.dcr_base.specs.declared.status.Status.{Status}
-use Rattle.dcr_base.specs.declared.status.Status.TheVariants.{Done, Usage, Refused, NoMemory, DiskFault, Invalid, Full, TapeRefused, DoorFault}
-use Rattle.dcr_base.specs.declared.status.Status.TheVariants as named
+use Rattle.dcr_base.specs.declared.status.Status.TheVariants.{Done, Usage, Refused, ReadFault, WriteFault, NoMemory, DiskFault, Invalid, Full, TapeRefused, DoorFault}
 use Rattle.dcr_journal.specs.Run.{HasNoFault, told}
 use Rattle.dcr_journal.specs.declared.call.Entry.{Entry}
 use Rattle.dcr_journal.specs.declared.call.Outcome.TheVariants as outcome
@@ -37,21 +36,45 @@ use Rattle.dcr_replay.specs.declared.verdict.Verdict.{Verdict}
 use Rattle.dcr_replay.specs.declared.verdict.Verdict.TheVariants as verdict
 use Rattle.dcr_replay.specs.declared.verdict.Wrong.{Wrong}
 use Rattle.dcr_policy.specs.Roles.{Roles}
-use Rattle.dcr_roles.specs.Accepted.{HadMemory, case_accepted}
+use Rattle.dcr_roles.specs.Accepted.{HadMemory, IsAccepted, accepted_in, both_of, case_accepted}
 use Rattle.dcr_roles.specs.Laws.{AcceptsCase}
+use Rattle.dcr_roles.specs.declared.accepted.Accepted.{Accepted}
 use Rattle.dcr_roles.specs.declared.accepted.AcceptStop.{AcceptStop}
-use Rattle.dcr_app.specs.Adapted.{AnswersStages, IsAnsweredStages, WroteReports, stage_line}
+use Rattle.dcr_app.specs.Adapted.{IsAnsweredStages, TellsStages, WroteReports, stage_line}
 use Rattle.dcr_app.specs.Headline.{Headline, cluster_in, digest_of, rules_in}
 use Rattle.dcr_app.specs.Loaded.{AnswersLoad}
-use Rattle.dcr_app.specs.Logged.{AnswersLog, InputRefusal, IsAnsweredLog, IsInputRefused, input_line}
-use Rattle.dcr_app.specs.Outside.{FromInput, IsStarved, WereLeft, Wrote, most_bytes}
+use Rattle.dcr_app.specs.Logged.{InputRefusal, IsAnsweredLog, IsInputRefused, TellsLog, input_line}
+use Rattle.dcr_app.specs.Command.{IsWay}
+use Rattle.dcr_app.specs.Outside.{IsStarved, LeavesInput, WereLeft, Wrote, limit_in, most_bytes}
 use Rattle.dcr_app.specs.Refusal.{case_line, refusal_line}
-use Rattle.dcr_app.specs.Stored.{KeepsRun, RefusesTape, tape_line}
-use Rattle.dcr_app.specs.Telling.{Telling, by_workers, over_links}
+use Rattle.dcr_app.specs.Stored.{KeepsRun, RefusesTape, ShowsCause, tape_line}
+use Rattle.dcr_app.specs.Telling.{IsServing, Telling, told_by}
 use Rattle.dcr_base.specs.Door.{Doors}
+use Rattle.dcr_app.specs.declared.answer.Answer.{Answer}
 use Rattle.dcr_app.specs.declared.app.End.{End}
+use Rattle.dcr_app.specs.declared.app.Task.{Task}
+use Rattle.dcr_app.specs.declared.app.Task.TheVariants as task
 use Rattle.dcr_app.specs.declared.command.Command.{Command}
-use Rattle.dcr_app.specs.declared.command.Command.TheVariants.{Run, Serve, Replay, Load, Nodes, Conform, Adapt}
+use Rattle.dcr_app.specs.declared.command.Command.TheVariants.{Load, Read}
+use Rattle.dcr_app.specs.declared.command.Reading.{Reading}
+use Rattle.dcr_app.specs.declared.command.Reading.TheVariants.{Execute, Replay, Nodes, Conform, Adapt}
+use Rattle.dcr_app.specs.declared.command.Way.{Way}
+use Rattle.dcr_app.specs.declared.command.Way.TheVariants.{Run, Serve}
+
+-- ---- refusals
+
+-- this is the line of the first refusal of these bytes
+abbrev pub RefusesBytes : Reading → List ℕ → List ℕ → Type 0
+RefusesBytes Replay bytes line = ⊥
+RefusesBytes Conform bytes line = (why : InputRefusal) × IsInputRefused bytes why × (line ≡ input_line why)
+RefusesBytes Adapt bytes line = (why : StageStop) × (stages_in bytes ≡ Err why) × (why ≢ stage.NoMemory) × (line ≡ stage_line why)
+RefusesBytes reading bytes line = (why : AcceptStop) × (case_accepted bytes ≡ Err why) × HadMemory why × (line ≡ refusal_line why)
+
+-- the bytes are refused, and the line of the first refusal was due
+pub record IsRefused (reading : Reading) (bytes : List ℕ) (had took : Side) (status : Status) : Type 0 where
+  pub line : List ℕ
+  pub refuses : RefusesBytes reading bytes line
+  pub wrote : Wrote Refused line status had took
 
 -- ---- `run` and `serve`
 
@@ -71,39 +94,26 @@ pub record TellsRun {D : Type 0} (view : D → DiskView) (faults : D → ℕ) (t
   pub legal : IsReport (report_text case.nested case.cover closed.opening closed.history.entries) (length closed.history.entries)
   pub disk : KeepsRun store view faults (digest_of case) old closed.history.entries before after
 
--- the bytes are not accepted, and the line of the first refusal was due
-pub record IsRefused (bytes : List ℕ) (had took : Side) (status : Status) : Type 0 where
-  pub why : AcceptStop
-  pub refuses : case_accepted bytes ≡ Err why
-  pub named : HadMemory why
-  pub line : Wrote Refused (refusal_line why) status had took
-
 -- The bytes are accepted, and the disk, which wasn't empty, is refused as the tape of their case: the line of a cause that
 -- stands in its content was due. The disk tells that content and still has it.
 pub record IsTapeRefused (bytes : List ℕ) (before after : DiskView) (had took : Side) (status : Status) : Type 0 where
   pub case : Spelled
   pub spelled : case_accepted bytes ≡ Ok case
-  pub content : List ℕ
-  pub was : IsTrue before.told → before.content ≡ content
-  pub stays : IsTrue after.told × (after.content ≡ content)
-  pub some : content ≢ []
   pub cause : TapeCause
-  pub stands : RefusesTape case content cause
+  pub shows : ShowsCause case before after cause
   pub line : Wrote TapeRefused (tape_line cause) status had took
 
--- Why no run of these bytes is told: memory ran out; the bytes are refused; or, with a store, the disk failed before any call was
--- made, or it is refused as the tape of the case. Of the first and the third nothing was written.
+-- Why no run of a case is told: with a store, the disk failed before any call was made and nothing was written, or it is refused
+-- as the tape of the case.
 pub data TellsNone (store : Bool) (before after : DiskView) (bytes : List ℕ) (had took : Side) (status : Status) : Type 0 where
-  is_starved : IsStarved status had took → TellsNone store before after bytes had took status
-  is_refused : IsRefused bytes had took status → TellsNone store before after bytes had took status
   has_failed : store ≡ true → status ≡ DiskFault → Adds [] had took → TellsNone store before after bytes had took status
   is_tape_refused : store ≡ true → IsTapeRefused bytes before after had took status → TellsNone store before after bytes had took status
 
--- A run that is told is the headline's. Where none is, nothing was written, or the bytes or the tape are refused.
-abbrev pub AnswersCase : {D : Type 0} → (D → DiskView) → (D → ℕ) → Telling D → Bool → D → D → List ℕ → Side → Side → Status → Option Closed → Type 0
-AnswersCase view faults telling store before after bytes had took status (Some closed) =
+-- what comes of a case that is executed: a run that is told is the headline's
+abbrev pub TellsCase : {D : Type 0} → (D → DiskView) → (D → ℕ) → Telling D → Bool → D → D → List ℕ → Side → Side → Status → Option Closed → Type 0
+TellsCase view faults telling store before after bytes had took status (Some closed) =
     TellsRun view faults telling store before after (Some bytes) ⊤ had took status closed
-AnswersCase view faults telling store before after bytes had took status None = TellsNone store (view before) (view after) bytes had took status
+TellsCase view faults telling store before after bytes had took status None = TellsNone store (view before) (view after) bytes had took status
 
 -- The run of a single worker in which nothing failed is the told one: the sessions one after the other. And a case of a
 -- single session that spells a run of the graph from where it begins, each event at a site that owns it, is answered by
@@ -121,7 +131,7 @@ IsDoneThroughout left closed_run = IfSome left (λ bytes. (case : Spelled) (even
 
 -- what is told of a run the other way round
 abbrev pub IsConverse : Option Command → Option (List ℕ) → Option Closed → Type 0
-IsConverse (Some (Run workers store)) left closed_run = IsToldByOne workers left closed_run × IsDoneThroughout left closed_run
+IsConverse (Some (Read (Execute (Run workers) store))) left closed_run = IsToldByOne workers left closed_run × IsDoneThroughout left closed_run
 IsConverse command left closed_run = ⊤
 
 -- ---- `replay`
@@ -140,9 +150,6 @@ pub record IsChecked (bytes : List ℕ) (had took : Side) (status : Status) : Ty
   pub is : IsVerdict bytes found
   pub line : Wrote (verdict_status found) (verdict_line found) status had took
 
-abbrev pub AnswersReport : List ℕ → Side → Side → Status → Type 0
-AnswersReport bytes had took status = IsStarved status had took ⊎ IsChecked bytes had took status
-
 -- ---- `nodes`
 
 -- The executions of the case that these bytes spell were run at sites apart, and the report of that run was due.
@@ -157,69 +164,83 @@ pub record TellsApart (bytes : List ℕ) (had took : Side) (status : Status) (cl
   pub history : closed.history.entries ≡ told (rules_in case) case.cover.owned case.opening (exec_calls case.sessions)
   pub legal : IsReport (report_text case.nested case.cover closed.opening closed.history.entries) (length closed.history.entries)
 
--- where no run is told, nothing was written or the bytes are refused
-abbrev pub AnswersApart : List ℕ → Side → Side → Status → Option Closed → Option WorldState → Type 0
-AnswersApart bytes had took status (Some closed) (Some world) = TellsApart bytes had took status closed world
-AnswersApart bytes had took status None None = IsStarved status had took ⊎ IsRefused bytes had took status
-AnswersApart bytes had took status closed world = ⊥
+abbrev pub TellsNodes : List ℕ → Side → Side → Status → Option Closed → Option WorldState → Type 0
+TellsNodes bytes had took status (Some closed) (Some world) = TellsApart bytes had took status closed world
+TellsNodes bytes had took status closed_run world = ⊥
 
 -- ---- every command
 
 -- whether the command keeps its executions in a store
 abbrev pub is_stored : Option Command → Bool
-is_stored (Some (Run workers store)) = store
-is_stored (Some (Serve sessions workers store)) = store
+is_stored (Some (Read (Execute way store))) = store
 is_stored command = false
 
--- whether the command serves sessions over links
-abbrev pub IsServing : Option Command → Type 0
-IsServing (Some (Serve sessions workers store)) = ⊤
-IsServing command = ⊥
-
 -- no run is told, and no world
-abbrev pub IsUntold : {D B L R : Type 0} → End B D L R → Type 0
-IsUntold end = (end.closed ≡ None) × (end.world ≡ None)
+abbrev pub IsUntold : Option Closed → Option WorldState → Type 0
+IsUntold closed_run world = (closed_run ≡ None) × (world ≡ None)
 
--- What a command answers to the bytes of its input: to a case file by its run, that of its own sessions or of those over links, or
--- its refusal; to a report by its verdict; to a case with a log behind it by how each trace is judged; to several cases by the
--- reports of their runs, each of which goes on from the one before. `doors` is what the door and its links tell, `before` is the disk
--- at entry and `door` the door.
-abbrev pub AnswersBytes : {D B L R : Type 0} → (D → DiskView) → (D → ℕ) → Doors B L R → Command → B → D → List ℕ → Side → Side → End B D L R → Type 0
-AnswersBytes view faults doors (Run workers store) door before bytes had took end =
-    (end.world ≡ None) × AnswersCase view faults (by_workers workers) store before end.disk bytes had took end.status end.closed
-AnswersBytes view faults doors (Serve sessions workers store) door before bytes had took end =
-    (end.world ≡ None) × AnswersCase view faults (over_links doors door end.door sessions end.ends.items) store before end.disk bytes had took end.status end.closed
-AnswersBytes view faults doors Replay door before bytes had took end = IsUntold end × AnswersReport bytes had took end.status
-AnswersBytes view faults doors (Load number) door before bytes had took end = ⊥
-AnswersBytes view faults doors (Nodes number) door before bytes had took end = AnswersApart bytes had took end.status end.closed end.world
-AnswersBytes view faults doors Conform door before bytes had took end = IsUntold end × AnswersLog bytes had took end.status
-AnswersBytes view faults doors Adapt door before bytes had took end = (end.world ≡ None) × AnswersStages bytes had took end.status end.closed
+-- What is told where the bytes of an input are not refused: by a case that is executed what `OfCase` says of it; of a report its verdict; of a
+-- case with a log behind it how each trace is judged; of several cases the reports of their runs, each of which goes on from the one before.
+abbrev pub TellsBytes : (Way → Bool → List ℕ → Type 0) → Reading → List ℕ → Side → Side → Status → Option Closed → Option WorldState → Type 0
+TellsBytes OfCase (Execute way store) bytes had took status closed_run world = (world ≡ None) × OfCase way store bytes
+TellsBytes OfCase Replay bytes had took status closed_run world = IsUntold closed_run world × IsChecked bytes had took status
+TellsBytes OfCase (Nodes number) bytes had took status closed_run world = TellsNodes bytes had took status closed_run world
+TellsBytes OfCase Conform bytes had took status closed_run world = IsUntold closed_run world × TellsLog bytes had took status
+TellsBytes OfCase Adapt bytes had took status closed_run world = (world ≡ None) × TellsStages bytes had took status closed_run
 
--- What the program answers: to words that are no command the line `usage`; to a number the run of its case; else what the command
--- answers to the bytes of its input. `left` is what the input had left at entry, where it tells that, and `has_ended` that it
--- has come to its end; `had` is what the output had taken at entry, and `took` what it has taken now, where it tells that.
+-- What comes of the bytes of an input: memory ran out before anything was written; they are refused; or this is told.
+pub data FromBytes (reading : Reading) (bytes : List ℕ) (had took : Side) (status : Status) (IsNone IsTold : Type 0) : Type 0 where
+  bytes_starved : IsNone → IsStarved status had took → FromBytes reading bytes had took status IsNone IsTold
+  bytes_refused : IsNone → IsRefused reading bytes had took status → FromBytes reading bytes had took status IsNone IsTold
+  bytes_told : IsTold → FromBytes reading bytes had took status IsNone IsTold
+
+abbrev pub AnswersBytes : (Way → Bool → List ℕ → Type 0) → Reading → List ℕ → Side → Side → Status → Option Closed → Option WorldState → Type 0
+AnswersBytes OfCase reading bytes had took status closed_run world =
+    FromBytes reading bytes had took status (IsUntold closed_run world) (TellsBytes OfCase reading bytes had took status closed_run world)
+
+-- What comes of a command that reads its input: a read failed or memory ran out, before anything was written; there were too many bytes; or
+-- all were read, which are those that the input had left, and these were answered.
+pub data FromInput (reading : Reading) (left : Option (List ℕ)) (has_ended : Type 0) (had took : Side) (status : Status) (IsNone : Type 0) (IsAnswered : List ℕ → Type 0) : Type 0 where
+  input_unread : IsNone → (status ≡ ReadFault) ⊎ (status ≡ NoMemory) → Adds [] had took → FromInput reading left has_ended had took status IsNone IsAnswered
+  input_long : IsNone → IfSome left (λ bytes. most_bytes reading < length bytes) → Wrote Refused (case_line stop.TooLong) status had took
+      → FromInput reading left has_ended had took status IsNone IsAnswered
+  input_whole : (bytes : List ℕ) → WereLeft left bytes → length bytes ≤ most_bytes reading → has_ended → IsAnswered bytes
+      → FromInput reading left has_ended had took status IsNone IsAnswered
+
+-- What a command answers: to words that are none the line `usage`; to a number the run of its case; else what comes of its input.
+abbrev pub AnswersWith : (Way → Bool → List ℕ → Type 0) → Option Command → Option (List ℕ) → Type 0 → Side → Side → Status → Option Closed → Option WorldState → Type 0
+AnswersWith OfCase None left has_ended had took status closed_run world =
+    IsUntold closed_run world × ((status ≢ NoMemory) × Wrote Usage (codes "usage\n") status had took)
+AnswersWith OfCase (Some (Load number)) left has_ended had took status closed_run world = (world ≡ None) × AnswersLoad number had took status closed_run
+AnswersWith OfCase (Some (Read reading)) left has_ended had took status closed_run world =
+    FromInput reading left has_ended had took status (IsUntold closed_run world) (λ bytes. AnswersBytes OfCase reading bytes had took status closed_run world)
+
+-- what the end tells of a case that is executed in this way
+abbrev pub Executed : {D B L R : Type 0} → (D → DiskView) → (D → ℕ) → Doors B L R → B → D → Side → Side → End B D L R → Way → Bool → List ℕ → Type 0
+Executed view faults doors door before had took end way store bytes =
+    TellsCase view faults (told_by doors door end.door end.ends.items way) store before end.disk bytes had took end.status end.closed
+
+-- What the program answers, where a case that is executed is told by its run, that of its own sessions or of those over links. `doors` is
+-- what the door and its links tell, `door` is the door at entry and `before` the disk. `left` is what the input had left at entry, where it
+-- tells that, and `has_ended` that it has come to its end; `had` is what the output had taken at entry, and `took` what it has taken now,
+-- where it tells that.
 abbrev pub Answers : {D B L R : Type 0} → (D → DiskView) → (D → ℕ) → Doors B L R → Option Command → B → D → Option (List ℕ) → Type 0 → Side → Side → End B D L R → Type 0
-Answers view faults doors None door before left has_ended had took end = IsUntold end × ((end.status ≢ NoMemory) × Wrote Usage (codes "usage\n") end.status had took)
-Answers view faults doors (Some (Load number)) door before left has_ended had took end = (end.world ≡ None) × AnswersLoad number had took end.status end.closed
-Answers view faults doors (Some command) door before left has_ended had took end =
-    FromInput (most_bytes command) left has_ended had took end.status (IsUntold end) (λ bytes. AnswersBytes view faults doors command door before bytes had took end)
+Answers view faults doors command door before left has_ended had took end =
+    AnswersWith (Executed view faults doors door before had took end) command left has_ended had took end.status end.closed end.world
 
 -- A run of a case that `run` or `serve` tells is the headline's, whatever the status. `answers` says so too, of each command and with the
 -- other answers; this is the part of it that is cited alone. `TellsRun` has besides the headline what `replay` finds and what the disk has.
 abbrev pub IsHeadline : {D B L R : Type 0} → (D → DiskView) → (D → ℕ) → Doors B L R → Option Command → B → D → Option (List ℕ) → Type 0 → Side → Side → End B D L R → Type 0
-IsHeadline view faults doors (Some (Run workers store)) door before left has_ended had took end =
-    IfSome end.closed (λ closed. TellsRun view faults (by_workers workers) store before end.disk left has_ended had took end.status closed)
-IsHeadline view faults doors (Some (Serve sessions workers store)) door before left has_ended had took end =
-    IfSome end.closed (λ closed. TellsRun view faults (over_links doors door end.door sessions end.ends.items) store before end.disk left has_ended had took end.status closed)
+IsHeadline view faults doors (Some (Read (Execute way store))) door before left has_ended had took end =
+    IfSome end.closed (λ closed. TellsRun view faults (told_by doors door end.door end.ends.items way) store before end.disk left has_ended had took end.status closed)
 IsHeadline view faults doors command door before left has_ended had took end = ⊤
 
 -- ---- what each status says
 
 -- whether the command writes one report of a run that it tells
 abbrev pub IsReporting : Option Command → Type 0
-IsReporting (Some (Run workers store)) = ⊤
-IsReporting (Some (Serve sessions workers store)) = ⊤
-IsReporting (Some (Nodes number)) = ⊤
+IsReporting (Some (Read (Execute way store))) = ⊤
+IsReporting (Some (Read (Nodes number))) = ⊤
 IsReporting command = ⊥
 
 -- the report that was written is that of a legal history, so that `replay` finds it valid
@@ -242,28 +263,20 @@ pub record SaysInvalid (left had took : Option (List ℕ)) : Type 0 where
   pub no_report : IfSome left (λ bytes. (count : ℕ) → IsReport bytes count → ⊥)
   pub wrote : Appends had took (verdict_line (verdict.Invalid line kind))
 
--- the line that was written tells the first refusal of these bytes
-abbrev pub RefusesBytes : Command → List ℕ → Option (List ℕ) → Option (List ℕ) → Type 0
-RefusesBytes Replay bytes had took = ⊥
-RefusesBytes (Load number) bytes had took = ⊥
-RefusesBytes Conform bytes had took = (why : InputRefusal) × IsInputRefused bytes why × Appends had took (input_line why)
-RefusesBytes Adapt bytes had took = (why : StageStop) × (stages_in bytes ≡ Err why) × (why ≢ stage.NoMemory) × Appends had took (stage_line why)
-RefusesBytes command bytes had took = (why : AcceptStop) × (case_accepted bytes ≡ Err why) × HadMemory why × Appends had took (refusal_line why)
-
 -- the line that was written says why the input is refused: that it has too many bytes, or the first refusal of its bytes
-abbrev pub Refuses : Command → Option (List ℕ) → Option (List ℕ) → Option (List ℕ) → Type 0
-Refuses command left had took = (IfSome left (λ bytes. most_bytes command < length bytes) × Appends had took (case_line stop.TooLong))
-    ⊎ ((bytes : List ℕ) × WereLeft left bytes × RefusesBytes command bytes had took)
+pub data Refuses (reading : Reading) (left had took : Option (List ℕ)) : Type 0 where
+  refuses_long : IfSome left (λ bytes. most_bytes reading < length bytes) → Appends had took (case_line stop.TooLong) → Refuses reading left had took
+  refuses_bytes : (bytes : List ℕ) → WereLeft left bytes → (line : List ℕ) → RefusesBytes reading bytes line → Appends had took line → Refuses reading left had took
 
 -- What each status says: of what was written, and with which command it comes. `before` and `after` are the disk at entry and now.
 abbrev pub Says : Option Command → DiskView → DiskView → Option (List ℕ) → Side → Side → Option Closed → Status → Type 0
 Says command before after left had took closed_run status =
     (status ≡ Done → IsReporting command → WroteReport had.bytes took.bytes closed_run)
-    × (status ≡ Done → command ≡ Some Replay → SaysValid left had.bytes took.bytes)
-    × (status ≡ Done → command ≡ Some Adapt → WroteReports had.bytes took.bytes)
-    × (status ≡ Invalid → (command ≡ Some Replay) × SaysInvalid left had.bytes took.bytes)
+    × (status ≡ Done → command ≡ Some (Read Replay) → SaysValid left had.bytes took.bytes)
+    × (status ≡ Done → command ≡ Some (Read Adapt) → WroteReports had.bytes took.bytes)
+    × (status ≡ Invalid → (command ≡ Some (Read Replay)) × SaysInvalid left had.bytes took.bytes)
     × (status ≡ Usage → command ≡ None)
-    × (status ≡ Refused → (reading : Command) × (command ≡ Some reading) × Refuses reading left had.bytes took.bytes)
+    × (status ≡ Refused → (reading : Reading) × (command ≡ Some (Read reading)) × Refuses reading left had.bytes took.bytes)
     × (status ≡ TapeRefused → (is_stored command ≡ true) × ((bytes : List ℕ) × WereLeft left bytes × IsTapeRefused bytes before after had took TapeRefused))
     × (status ≡ DiskFault → is_stored command ≡ true)
     × (status ≡ Full → IsServing command × IfSome closed_run (λ closed. length closed.history.entries ≡ most_served))
@@ -275,12 +288,10 @@ Says command before after left had took closed_run status =
 abbrev pub IsOr : Status → Status → Type 0
 IsOr due status = (status ≡ due) ⊎ (status ≡ NoMemory)
 
--- what the run of a case ends with where nothing fails, and the serving of one
-abbrev pub EndsRun : Status → Type 0
-EndsRun status = IsOr Done status
-
-abbrev pub EndsServing : Status → Type 0
-EndsServing status = (status ≡ Full) ⊎ IsOr Done status
+-- what the execution of a case ends with where nothing fails
+abbrev pub EndsRun : Way → Status → Type 0
+EndsRun (Run workers) status = IsOr Done status
+EndsRun (Serve sessions workers) status = (status ≡ Full) ⊎ IsOr Done status
 
 -- A disk that is empty or stands for executions that can be done is gone on from; one that is refused as a tape is refused.
 pub record IsAnsweredTape (IsDone : Status → Type 0) (case : Spelled) (content : List ℕ) (status : Status) : Type 0 where
@@ -302,20 +313,56 @@ IsAnsweredReport bytes status =
     × (length bytes ≤ 268435456 → (verdict : Verdict) → IsVerdict bytes verdict → IsOr (verdict_status verdict) status)
 
 -- What the bytes that the input had left are answered by, where the disk tells this.
-abbrev pub IsAnswered : Command → DiskView → List ℕ → Status → Type 0
-IsAnswered (Run workers store) disk bytes status = IsAnsweredCase EndsRun store disk (case_accepted bytes) status
-IsAnswered (Serve sessions workers store) disk bytes status = IsAnsweredCase EndsServing store disk (case_accepted bytes) status
+abbrev pub IsAnswered : Reading → DiskView → List ℕ → Status → Type 0
+IsAnswered (Execute way store) disk bytes status = IsAnsweredCase (EndsRun way) store disk (case_accepted bytes) status
 IsAnswered Replay disk bytes status = IsAnsweredReport bytes status
-IsAnswered (Load number) disk bytes status = ⊤
-IsAnswered (Nodes number) disk bytes status = IsAnsweredCase EndsRun false disk (case_accepted bytes) status
+IsAnswered (Nodes number) disk bytes status = IsAnsweredCase (IsOr Done) false disk (case_accepted bytes) status
 IsAnswered Conform disk bytes status = IsAnsweredLog bytes status
 IsAnswered Adapt disk bytes status = IsAnsweredStages bytes status
 
 -- What the program ends with unless one of these came: a failed read, a failed write, and, where the command calls them, a failed disk
 -- and a failed door.
 abbrev pub EndsAs : Option Command → DiskView → Option (List ℕ) → Type 0 → Type 0 → Type 0 → Type 0 → Status → Type 0
-EndsAs None disk left reads_failed writes_failed disks_failed doors_failed status = (status ≡ Usage) ⊎ (status ≡ named.WriteFault)
+EndsAs None disk left reads_failed writes_failed disks_failed doors_failed status = (status ≡ Usage) ⊎ (status ≡ WriteFault)
 EndsAs (Some (Load number)) disk left reads_failed writes_failed disks_failed doors_failed status = (writes_failed → ⊥) → IsOr Done status
-EndsAs (Some command) disk left reads_failed writes_failed disks_failed doors_failed status =
-    (reads_failed → ⊥) → (writes_failed → ⊥) → ((is_stored (Some command) ≡ true) × disks_failed → ⊥) → (IsServing (Some command) × doors_failed → ⊥)
-    → IfSome left (λ bytes. IsAnswered command disk bytes status)
+EndsAs (Some (Read reading)) disk left reads_failed writes_failed disks_failed doors_failed status =
+    (reads_failed → ⊥) → (writes_failed → ⊥) → ((is_stored (Some (Read reading)) ≡ true) × disks_failed → ⊥) → (IsServing (Some (Read reading)) × doors_failed → ⊥)
+    → IfSome left (λ bytes. IsAnswered reading disk bytes status)
+
+-- ---- for private clauses
+
+-- what comes of the bytes of an input where no case is executed
+abbrev pub AnswersPlain : Reading → List ℕ → Side → Side → Answer → Type 0
+AnswersPlain reading bytes had took answer = AnswersBytes (λ way store bytes. ⊥) reading bytes had took answer.0 answer.1 answer.2
+
+-- This line of a refusal was due, or memory ran out before it. `is_one` is that the refusal is none for want of memory.
+abbrev pub RefusesBy : Type 0 → List ℕ → Side → Side → Answer → Type 0
+RefusesBy is_one line had took answer = IsUntold answer.1 answer.2 × (IsStarved answer.0 had took ⊎ (is_one × Wrote Refused line answer.0 had took))
+
+-- The bytes are accepted, and are to be executed in this way, with a store or without one; nothing was written.
+pub record IsToExecute (reading : Reading) (bytes : List ℕ) (had took : Side) (way : Way) (store : Bool) (accepted : Accepted) : Type 0 where
+  pub asked : reading ≡ Execute way store
+  pub numbers : IsWay way
+  pub fits : IsAccepted accepted
+  pub spelled : accepted_in bytes ≡ Ok (both_of accepted)
+  pub nothing : took ≡ had
+
+-- what is left to do of these bytes
+abbrev pub IsTaskOf : Reading → List ℕ → Side → Side → Task → Type 0
+IsTaskOf reading bytes had took (task.Answered answer) = AnswersPlain reading bytes had took answer
+IsTaskOf reading bytes had took (task.Execute way store accepted) = IsToExecute reading bytes had took way store accepted
+
+-- The input was read whole, which has `rest` left: a command that reads it may end with any status but that of a failed read.
+pub record WasRead (reading : Reading) (left rest : Side) (has_ended : Type 0) (bytes : List ℕ) : Type 0 where
+  pub were_left : WereLeft left.bytes bytes
+  pub few : length bytes ≤ most_bytes reading
+  pub ended : has_ended
+  pub leaves : (status : Status) → status ≢ ReadFault → LeavesInput (Some (most_bytes reading)) left rest has_ended status
+
+-- what is left to do where the words were read, and the input where they ask for that, which has `rest` left
+abbrev pub IsTask : Option Command → Side → Side → Type 0 → Side → Side → Task → Type 0
+IsTask command left rest has_ended had took (task.Answered answer) =
+    AnswersWith (λ way store bytes. ⊥) command left.bytes has_ended had took answer.0 answer.1 answer.2 × LeavesInput (limit_in command) left rest has_ended answer.0
+IsTask command left rest has_ended had took (task.Execute way store accepted) =
+    (command ≡ Some (Read (Execute way store)))
+    × ((bytes : List ℕ) × WasRead (Execute way store) left rest has_ended bytes × IsToExecute (Execute way store) bytes had took way store accepted)

@@ -17,7 +17,7 @@ use Rattle.dcr_roles.specs.Accepted.{HadMemory, case_accepted}
 use Rattle.dcr_roles.specs.Laws.{AcceptsCase}
 use Rattle.dcr_roles.specs.declared.accepted.AcceptStop.{AcceptStop}
 use Rattle.dcr_roles.specs.declared.accepted.AcceptStop.TheVariants as accept
-use Rattle.dcr_app.specs.Outside.{IsStarved, Wrote}
+use Rattle.dcr_app.specs.Outside.{Wrote}
 use Rattle.dcr_app.specs.Refusal.{refusal_line}
 
 -- ---- the two parts of the input
@@ -64,12 +64,6 @@ abbrev pub IsInputRefused : List ℕ → InputRefusal → Type 0
 IsInputRefused bytes (no_case why) = (case_before_log bytes ≡ Err why) × HadMemory why
 IsInputRefused bytes (bad_record row) = (case : Spelled) × (case_before_log bytes ≡ Ok case) × (first_bad (rows_in bytes) ≡ Some row)
 
--- the bytes are refused, and the line of the first refusal was due
-pub record IsRefusedInput (bytes : List ℕ) (had took : Side) (status : Status) : Type 0 where
-  pub why : InputRefusal
-  pub refuses : IsInputRefused bytes why
-  pub line : Wrote Refused (input_line why) status had took
-
 -- ---- answers
 
 -- The traces of the log were judged by the whole graph of the case, from its opening marking, and their lines were due.
@@ -86,10 +80,6 @@ pub record TellsLog (bytes : List ℕ) (had took : Side) (status : Status) : Typ
   pub judged : AreJudged graph case.opening (traces_of (drop 1 (rows_in bytes))) answers
   -- what the output took are the lines of these answers, and then how many there are
   pub wrote : Wrote Done (judged_text graph.names (traces_of (drop 1 (rows_in bytes))) answers) status had took
-
--- else nothing was written, or the bytes are refused
-abbrev pub AnswersLog : List ℕ → Side → Side → Status → Type 0
-AnswersLog bytes had took status = IsStarved status had took ⊎ (IsRefusedInput bytes had took status ⊎ TellsLog bytes had took status)
 
 -- what an input and an output that don't fail end with: a case and a log without a bad record are done, and others refused
 abbrev pub EndsLog : Result Spelled AcceptStop → Option ℕ → Status → Type 0

@@ -5,7 +5,11 @@ use Rattle.dcr_base.specs.Disk.{DiskView, IsSteady, LeavesOnly}
 use Rattle.dcr_base.specs.Side.{Adds, Side}
 use Rattle.dcr_base.specs.declared.status.Status.{Status}
 use Rattle.dcr_base.specs.declared.status.Status.TheVariants as named
-use Rattle.dcr_journal.specs.Run.{HasNoFault}
+use Rattle.dcr_set.specs.EventSet.{Set}
+use Rattle.dcr_graph.specs.Cause.{waits}
+use Rattle.dcr_graph.specs.GraphValue.{Flat, rules_of}
+use Rattle.dcr_graph.specs.Projection.{HasRoom}
+use Rattle.dcr_journal.specs.Run.{after, marks_at, HasNoFault, IsLegal}
 use Rattle.dcr_journal.specs.declared.call.Entry.{Entry}
 use Rattle.dcr_journal.specs.declared.closed.Closed.{Closed}
 use Rattle.dcr_tape.specs.Kept.{part_of}
@@ -28,7 +32,7 @@ use Rattle.dcr_report.specs.Report.{report_text}
 use Rattle.dcr_replay.specs.Laws.{IsReport}
 use Rattle.dcr_roles.specs.Accepted.{case_accepted}
 use Rattle.dcr_app.specs.Headline.{IsDueFor, cluster_in, digest_of}
-use Rattle.dcr_app.specs.Outside.{IsStarved, WereLeft, Wrote}
+use Rattle.dcr_app.specs.Outside.{CountsWhere, IsStarved, WereLeft, Wrote}
 use Rattle.dcr_app.specs.Telling.{Telling}
 
 -- ---- after a run
@@ -116,12 +120,20 @@ tape_line NoMemory = []
 
 -- What comes of a disk that is refused for this cause: nothing is written where it failed or memory ran out; else the line of
 -- the cause was due, or memory ran out before it.
-abbrev pub EndsFor : TapeCause → Status → Side → Side → Type 0
-EndsFor DiskFault status had took = (status ≡ named.DiskFault) × Adds [] had took
-EndsFor NoMemory status had took = IsStarved status had took
-EndsFor cause status had took = IsStarved status had took ⊎ Wrote named.TapeRefused (tape_line cause) status had took
+pub data EndsFor (why : TapeCause) (status : Status) (had took : Side) : Type 0 where
+  tape_lost : why ≡ DiskFault → status ≡ named.DiskFault → Adds [] had took → EndsFor why status had took
+  tape_starved : why ≢ DiskFault → IsStarved status had took → EndsFor why status had took
+  tape_told : IsShown why → Wrote named.TapeRefused (tape_line why) status had took → EndsFor why status had took
 
--- ---- over a store
+-- The cause stands in the content of a disk that wasn't empty, which tells that content and still has it.
+pub record ShowsCause (case : Spelled) (before after : DiskView) (cause : TapeCause) : Type 0 where
+  pub content : List ℕ
+  pub was : IsTrue before.told → before.content ≡ content
+  pub stays : IsTrue after.told × (after.content ≡ content)
+  pub some : content ≢ []
+  pub stands : RefusesTape case content cause
+
+-- ---- for private clauses
 
 -- a run goes on from these executions, over the tape as which the disk was opened
 pub record BeginsOn {D : Type 0} (view : D → DiskView) (faults : D → ℕ) (digest : List ℕ) (before : D) (tape : Tape D) (old : List TapeEntry) : Type 0 where
@@ -145,28 +157,39 @@ tape_cause opening.NoMemory = NoMemory
 tape_cause (opening.BadTape at) = BadTape at
 tape_cause opening.DiskFault = DiskFault
 
--- the case was run over this store, with its policy, and the report of the run was due
+-- what is told of a run on the sites of a graph, so that its report can be written
+pub record IsRunOn (graph : Flat) (C : List Set) (closed : Closed) : Type 0 where
+  pub room : HasRoom (length graph.names) closed.opening
+  pub legal : IsLegal (rules_of graph) C closed.opening closed.history.entries
+  pub marks : closed.marks ≡ marks_at (rules_of graph) C (after (rules_of graph) closed.opening closed.history.entries)
+  pub waits : closed.waits ≡ waits (length graph.names) (after (rules_of graph) closed.opening closed.history.entries)
+
+-- the case was run over this store, with its policy, and its report was due with this status
 pub record RanOver {D : Type 0} (view : D → DiskView) (faults : D → ℕ) (telling : Telling D) (case : Spelled) (policy : Roles) (old : List TapeEntry) (first : Store D) (disk : D)
-    (had took : Side) (status : Status) (closed : Closed) : Type 0 where
+    (due : Status) (closed : Closed) : Type 0 where
   pub last : Store D
   pub same : disk ≡ disk_in last
   pub possible : ArePossible (cluster_in case old) (length old)
   pub whole : IsWhole view faults (cluster_in case old) first closed last
   pub sessions : telling.sessions first case policy closed.history.entries
   pub order : telling.order closed.history.entries
-  pub report : (due : Status) × IsDueFor telling closed.history.entries due
-      × Wrote due (report_text case.nested case.cover closed.opening closed.history.entries) status had took
+  pub due_is : IsDueFor telling closed.history.entries due
   pub legal : IsReport (report_text case.nested case.cover closed.opening closed.history.entries) (length closed.history.entries)
 
 -- no call was made over this store, for this cause
-pub record RefusedOver {D : Type 0} (view : D → DiskView) (faults : D → ℕ) (case : Spelled) (old : List TapeEntry) (first : Store D) (disk : D)
-    (had took : Side) (status : Status) : Type 0 where
+pub record RefusedOver {D : Type 0} (view : D → DiskView) (faults : D → ℕ) (case : Spelled) (old : List TapeEntry) (first : Store D) (disk : D) (why : TapeCause) : Type 0 where
   pub cause : OpenCause
+  pub is : why ≡ tape_cause cause
   pub last : Store D
   pub same : disk ≡ disk_in last
   pub refused : Refused view faults (cluster_in case old) first cause last
-  pub ends : EndsFor (tape_cause cause) status had took
 
-abbrev pub EndsOver : {D : Type 0} → (D → DiskView) → (D → ℕ) → Telling D → Spelled → Roles → List TapeEntry → Store D → D → Side → Side → Status → Option Closed → Type 0
-EndsOver view faults telling case policy old first disk had took status (Some closed) = RanOver view faults telling case policy old first disk had took status closed
-EndsOver view faults telling case policy old first disk had took status None = RefusedOver view faults case old first disk had took status
+-- no call of the case was made, for this cause, and this is what became of the disk
+pub record IsUnrun {D : Type 0} (view : D → DiskView) (faults : D → ℕ) (store : Bool) (case : Spelled) (before after : D) (why : TapeCause) : Type 0 where
+  pub unstored : store ≡ false → (why ≡ NoMemory) × (after ≡ before)
+  pub shows : IsShown why → ShowsCause case (view before) (view after) why
+  pub counts : CountsWhere (why ≡ DiskFault) (faults before) (faults after)
+  pub still : StandsStill view before after
+  pub steady : why ≢ DiskFault → IsSteady (view before) → IsSteady (view after)
+  pub making : IsSteady (view before) → (view before).content ≡ [] → LeavesOnly (view before) (view after) IsMaking
+  pub content : (bytes : List ℕ) → case_accepted bytes ≡ Ok case → IsTrue (view before).told → KeepsContent (Some bytes) (view before) (view after)

@@ -1,6 +1,6 @@
 -- What a command that executes a case tells of its own: of the sessions, of their order, and of what else its report is due
 -- with than `Done`.
-use Rattle.std.specs.Prelude.{◌≡◌, ◌≢◌, ◌⊎◌, ℕ, ◌≤◌, List, [], length, Option, Some, None, ⊤}
+use Rattle.std.specs.Prelude.{◌≡◌, ◌≢◌, ◌⊎◌, ℕ, ◌≤◌, List, [], length, Option, Some, None, IsSome, ⊤}
 use Rattle.std.specs.List.{All}
 use Rattle.dcr_base.specs.Count.{Rose}
 use Rattle.dcr_base.specs.declared.status.Status.{Status}
@@ -22,9 +22,10 @@ use Rattle.dcr_engine.specs.Ran.{HasCalls}
 use Rattle.dcr_engine.specs.Served.{ServedIn, most_served}
 use Rattle.dcr_json.specs.Judged.{Spelled}
 use Rattle.dcr_app.specs.declared.command.Command.{Command}
-use Rattle.dcr_app.specs.declared.command.Command.TheVariants as asked
-use Rattle.dcr_app.specs.declared.way.Way.{Way}
-use Rattle.dcr_app.specs.declared.way.Way.TheVariants.{Run, Serve}
+use Rattle.dcr_app.specs.declared.command.Command.TheVariants.{Read}
+use Rattle.dcr_app.specs.declared.command.Reading.TheVariants.{Execute}
+use Rattle.dcr_app.specs.declared.command.Way.{Way}
+use Rattle.dcr_app.specs.declared.command.Way.TheVariants.{Run, Serve}
 
 -- `sessions` is told of the sessions of a history that began over this store, of a case and its policy, and `order` of the order of its entries. `full`
 -- is that it is full, and `door_failed` that the door failed.
@@ -85,24 +86,23 @@ abbrev pub told_by : {D B L R : Type 0} → Doors B L R → B → B → List (Li
 told_by doors before after ends (Run workers) = by_workers workers
 told_by doors before after ends (Serve sessions workers) = over_links doors before after sessions ends
 
--- the door is as it was, and no session was served over it
-abbrev pub IsUnasked : {B L R : Type 0} → B → B → List (LinkEnd L R) → Type 0
-IsUnasked before after ends = (after ≡ before) × (ends ≡ [])
+-- how many sessions the command serves over links, where it serves any
+abbrev pub served_by : Option Command → Option ℕ
+served_by (Some (Read (Execute (Serve sessions workers) store))) = Some sessions
+served_by command = None
 
--- what became of the door over which so many sessions were to be served: where no run is told, it was not asked
-abbrev pub LeavesWith : {B L R : Type 0} → Doors B L R → ℕ → Option Closed → B → B → List (LinkEnd L R) → Status → Type 0
-LeavesWith doors sessions (Some closed) before after ends status = LeavesServed doors before after sessions ends status
-LeavesWith doors sessions None before after ends status = IsUnasked before after ends
+abbrev pub IsServing : Option Command → Type 0
+IsServing command = IsSome (served_by command)
 
--- the same of either way: without sessions over links it was not asked
-abbrev pub LeavesBy : {B L R : Type 0} → Doors B L R → Way → Option Closed → B → B → List (LinkEnd L R) → Status → Type 0
-LeavesBy doors (Serve sessions workers) closed_run before after ends status = LeavesWith doors sessions closed_run before after ends status
-LeavesBy doors (Run workers) closed_run before after ends status = IsUnasked before after ends
+-- What became of the door over which so many sessions were to be served: where none were, or no run is told, it was not asked, and is as it
+-- was.
+abbrev pub LeavesFor : {B L R : Type 0} → Doors B L R → Option ℕ → Option Closed → B → B → List (LinkEnd L R) → Status → Type 0
+LeavesFor doors (Some sessions) (Some closed) before after ends status = LeavesServed doors before after sessions ends status
+LeavesFor doors sessions closed_run before after ends status = (after ≡ before) × (ends ≡ [])
 
--- the same of any command: without sessions over links it was not asked
+-- the same of a command
 abbrev pub LeavesDoor : {B L R : Type 0} → Doors B L R → Option Command → Option Closed → B → B → List (LinkEnd L R) → Status → Type 0
-LeavesDoor doors (Some (asked.Serve sessions workers store)) closed_run before after ends status = LeavesWith doors sessions closed_run before after ends status
-LeavesDoor doors command closed_run before after ends status = IsUnasked before after ends
+LeavesDoor doors command closed_run before after ends status = LeavesFor doors (served_by command) closed_run before after ends status
 
 -- ---- the status of a report
 

@@ -1,19 +1,12 @@
-// What a command tells that serves no session over a link.
-ghost use Rattle.std.specs.Prelude.{◌≡◌};
-
+// What a command answers that asks neither the door nor the disk.
 use dcr_base::Status;
 use dcr_journal::Closed;
+use dcr_node::World;
 
-/// How a command ended, and the run where there was one.
+/// How a command ended, the run where there was one, and all nodes after that where `nodes` made it.
 #[derive(Drop)]
-pub(crate) struct Answer {
-    pub(crate) status: Status,
-    pub(crate) closed: Option<Closed>,
-}
-
-/// What has ended so.
-pub(crate) fn ended(status: Status, closed: Option<Closed>) -> Answer
-    ensures { result ≡ record { status = status; closed = closed } }
-{
-    Answer { status, closed }
-}
+pub(crate) struct Answer(
+    pub(crate) Status,
+    pub(crate) Option<Closed>,
+    pub(crate) Option<World>,
+);

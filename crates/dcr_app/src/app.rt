@@ -1,26 +1,27 @@
 ghost use Rattle.std.specs.Prelude.{◌≡◌, ◌≤◌, length, Some};
 ghost use Rattle.dcr_base.specs.Count.{Rose};
-ghost use Rattle.dcr_app.specs.Answers.{Answers, AnswersBytes, EndsAs, IsConverse, IsHeadline, IsUntold, Says, is_stored};
-ghost use Rattle.dcr_app.specs.Command.{HasNumbers, IsReading, command_in};
-ghost use Rattle.dcr_app.specs.Outside.{CountsWhere, FromInput, IsUnread, LeavesInput, limit_in, most_bytes};
+ghost use Rattle.dcr_app.specs.Answers.{Answers, EndsAs, IsConverse, IsHeadline, IsTask, IsTaskOf, Says, is_stored};
+ghost use Rattle.dcr_app.specs.Command.{HasNumbers, command_in};
+ghost use Rattle.dcr_app.specs.Outside.{CountsWhere, IsUnread, LeavesInput, limit_in, most_bytes};
 ghost use Rattle.dcr_app.specs.Stored.{LeavesDisk};
 ghost use Rattle.dcr_app.specs.Telling.{LeavesDoor};
+ghost use Rattle.dcr_app.specs.declared.command.Command.TheVariants.{Read};
 
 use crate::adapt::adapt;
+use crate::answer::Answer;
 use crate::apart::apart;
-use crate::command::{Command, command_of};
+use crate::command::{Command, Reading, Way, command_of};
 use crate::conform::conform;
 use crate::load::load;
 use crate::replay::replay;
-use crate::run::run;
-use crate::say::say;
-use crate::way::Way;
+use crate::run::execute;
+use crate::say::{refuse, say};
 use dcr_base::{Disk, Door, Gate, Link, ReadStop, Sink, Source, Status, read_all};
 use dcr_engine::ordered_is_told;
 use dcr_journal::Closed;
 use dcr_node::World;
 use dcr_replay::{a_text_has_one_verdict, the_first_wrong_line_is_told, valid_is_report};
-use dcr_roles::when_each_refusal_comes;
+use dcr_roles::{Accepted, read_accepted, when_each_refusal_comes};
 use dcr_serving::LinkEnd;
 use dcr_tape::{no_cause, one_list};
 use std::alloc::Global;
@@ -126,6 +127,15 @@ pub fn dcr<
     answer(rt, alloc, words, input, output, door, disk, gate)
 }
 
+// What is left to do once the words and the input were read.
+#[derive(Drop)]
+pub(crate) enum Task {
+    // Nothing: the command is answered.
+    Answered(Answer),
+    // The case that the input spells is to be executed in this way, with a store or without one.
+    Execute(Way, bool, Accepted),
+}
+
 // Answers the words of a command.
 fn answer<
     I: Source,
@@ -152,70 +162,72 @@ fn answer<
     ensures door { LeavesDoor B.tells
         (command_in words.now) result.closed door result.door result.ends.items result.status }
 {
-    match command_of(words) {
-        None => End {
-            status: say(output, b"usage\n", Status::Usage),
-            closed: None,
+    let (task, disk) = task_of(rt, alloc, words, input, output, disk, &gate);
+    match task {
+        Task::Answered(answer) => End {
+            status: answer.0,
+            closed: answer.1,
             door,
             disk,
             ends: Vec::new(alloc),
-            world: None,
+            world: answer.2,
         },
-        Some(Command::Load { number }) => {
-            let (answer, disk) = load(rt, alloc, number, output, disk, gate);
-            End {
-                status: answer.status,
-                closed: answer.closed,
-                door,
-                disk,
-                ends: Vec::new(alloc),
-                world: None,
-            }
-        }
-        Some(command) => read_input(rt, alloc, command, input, output, door, disk, gate),
+        Task::Execute(way, store, accepted) => execute(
+            rt, alloc, way, store, &accepted, output, door, disk, gate,
+        ),
     }
 }
 
-// Reads the input of a command to its end, and answers it.
-fn read_input<
-    I: Source,
-    O: Sink,
-    B: Door<Link: Link<Rest: Send> + Send> + Send,
-    D: Disk + Send,
-    G: Gate + Drop + Sync,
-    R: Threads + Wait + Sync,
->(
+// Reads the words, and the input where they ask for that, and answers what needs neither the door nor a store.
+fn task_of<I: Source, O: Sink, D: Disk + Send, G: Gate + Drop + Sync, R: Threads + Wait + Sync>(
     rt: &R,
     alloc: Global,
-    command: Command,
+    words: &[String],
     input: &mut I,
     output: &mut O,
-    door: B,
     disk: D,
-    gate: G,
-) -> End<B, D>
-    requires numbers { HasNumbers command }
-    requires reads { IsReading command }
-    ensures reads { IsReading command }
-    ensures answers { FromInput (most_bytes command) (I.gives input.old).bytes (I.has_ended input.new) (O.takes output.old) (O.takes output.new) result.status (IsUntold result)
-        (λ bytes. AnswersBytes D.view D.faults B.tells
-        command door disk bytes (O.takes output.old) (O.takes output.new) result) }
-    ensures input { LeavesInput (Some (most_bytes command)) (I.gives input.old) (I.gives input.new)
-        (I.has_ended input.new) result.status }
-    ensures disk { LeavesDisk (is_stored (Some command)) D.view D.faults (I.gives input.old).bytes disk result.disk result.status result.closed }
-    ensures door { LeavesDoor B.tells
-        (Some command) result.closed door result.door result.ends.items result.status }
+    gate: &G,
+) -> (Task, D)
+    ensures task { IsTask (command_in words.now) (I.gives input.old) (I.gives input.new)
+        (I.has_ended input.new) (O.takes output.old) (O.takes output.new) result.0 }
+    ensures disk { result.1 ≡ disk }
 {
-    match read_all(alloc, input, limit_of(command)) {
-        Ok(bytes) => answer_bytes(rt, alloc, command, &bytes, output, door, disk, gate),
-        Err(stop) => End {
-            status: unread(stop, output),
-            closed: None,
-            door,
-            disk,
-            ends: Vec::new(alloc),
-            world: None,
-        },
+    match command_of(words) {
+        None => {
+            let status = say(output, b"usage\n", Status::Usage);
+            (Task::Answered(Answer(status, None, None)), disk)
+        }
+        Some(Command::Load { number }) => {
+            let (answer, disk) = load(rt, alloc, number, output, disk, gate);
+            (Task::Answered(answer), disk)
+        }
+        Some(Command::Read { reading }) => {
+            read_input(rt, alloc, reading, input, output, disk, gate)
+        }
+    }
+}
+
+// Reads the input to its end, and goes on with its bytes.
+fn read_input<I: Source, O: Sink, D: Disk + Send, G: Gate + Drop + Sync, R: Threads + Wait + Sync>(
+    rt: &R,
+    alloc: Global,
+    reading: Reading,
+    input: &mut I,
+    output: &mut O,
+    disk: D,
+    gate: &G,
+) -> (Task, D)
+    requires numbers { HasNumbers (Read reading) }
+    ensures task { IsTask (Some (Read reading)) (I.gives input.old) (I.gives input.new)
+        (I.has_ended input.new) (O.takes output.old) (O.takes output.new) result.0 }
+    ensures disk { result.1 ≡ disk }
+{
+    match read_all(alloc, input, limit_of(reading)) {
+        Ok(bytes) => task_of_bytes(rt, alloc, reading, &bytes, output, disk, gate),
+        Err(stop) => {
+            let status = unread(stop, output);
+            (Task::Answered(Answer(status, None, None)), disk)
+        }
     }
 }
 
@@ -230,93 +242,45 @@ fn unread<O: Sink>(stop: ReadStop, output: &mut O) -> Status
     }
 }
 
-// The most bytes of what a command reads.
-fn limit_of(command: Command) -> usize
-    ensures { result ≡ most_bytes command }
+// The most bytes of an input.
+fn limit_of(reading: Reading) -> usize
+    ensures { result ≡ most_bytes reading }
 {
-    match command {
-        Command::Replay => MOST_REPORT,
+    match reading {
+        Reading::Replay => MOST_REPORT,
         _ => MOST_FILE,
     }
 }
 
-// Answers the bytes of an input.
-fn answer_bytes<
-    O: Sink,
-    B: Door<Link: Link<Rest: Send> + Send> + Send,
-    D: Disk + Send,
-    G: Gate + Drop + Sync,
-    R: Threads + Wait + Sync,
->(
+// Answers the bytes of an input, but those of a case that is to be executed.
+fn task_of_bytes<O: Sink, D: Disk + Send, G: Gate + Drop + Sync, R: Threads + Wait + Sync>(
     rt: &R,
     alloc: Global,
-    command: Command,
+    reading: Reading,
     bytes: &[u8],
     output: &mut O,
-    door: B,
     disk: D,
-    gate: G,
-) -> End<B, D>
-    requires numbers { HasNumbers command }
-    requires reads { IsReading command }
-    requires few { length bytes.now ≤ most_bytes command }
-    ensures answers { AnswersBytes D.view D.faults B.tells
-        command door disk bytes.now (O.takes output.old) (O.takes output.new) result }
-    ensures disk { LeavesDisk (is_stored (Some command)) D.view D.faults (Some bytes.now) disk result.disk result.status result.closed }
-    ensures door { LeavesDoor B.tells
-        (Some command) result.closed door result.door result.ends.items result.status }
+    gate: &G,
+) -> (Task, D)
+    requires numbers { HasNumbers (Read reading) }
+    requires few { length bytes.now ≤ most_bytes reading }
+    ensures task { IsTaskOf reading bytes.now (O.takes output.old) (O.takes output.new) result.0 }
+    ensures disk { result.1 ≡ disk }
 {
-    match command {
-        Command::Run { workers, store } => {
-            let own = Way::Run { workers };
-            run(rt, alloc, own, store, bytes, output, door, disk, gate)
-        }
-        Command::Serve {
-            sessions,
-            workers,
-            store,
-        } => {
-            let links = Way::Serve { sessions, workers };
-            run(rt, alloc, links, store, bytes, output, door, disk, gate)
-        }
-        Command::Replay => End {
-            status: replay(alloc, bytes, output),
-            closed: None,
-            door,
-            disk,
-            ends: Vec::new(alloc),
-            world: None,
+    match reading {
+        Reading::Execute { way, store } => match read_accepted(alloc, bytes) {
+            Ok(accepted) => (Task::Execute(way, store, accepted), disk),
+            Err(stop) => (Task::Answered(refuse(alloc, output, &stop)), disk),
         },
-        Command::Load { .. } => unreachable!(),
-        Command::Nodes { number } => {
-            let (answer, world) = apart(alloc, number, bytes, output);
-            End {
-                status: answer.status,
-                closed: answer.closed,
-                door,
-                disk,
-                ends: Vec::new(alloc),
-                world,
-            }
-        }
-        Command::Conform => End {
-            status: conform(rt, alloc, bytes, output),
-            closed: None,
-            door,
+        Reading::Replay => (Task::Answered(replay(alloc, bytes, output)), disk),
+        Reading::Nodes { number } => (
+            Task::Answered(apart(rt, alloc, number, bytes, output)),
             disk,
-            ends: Vec::new(alloc),
-            world: None,
-        },
-        Command::Adapt => {
-            let (answer, disk) = adapt(rt, alloc, bytes, output, disk, &gate);
-            End {
-                status: answer.status,
-                closed: answer.closed,
-                door,
-                disk,
-                ends: Vec::new(alloc),
-                world: None,
-            }
+        ),
+        Reading::Conform => (Task::Answered(conform(rt, alloc, bytes, output)), disk),
+        Reading::Adapt => {
+            let (answer, disk) = adapt(rt, alloc, bytes, output, disk, gate);
+            (Task::Answered(answer), disk)
         }
     }
 }

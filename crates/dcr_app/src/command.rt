@@ -1,37 +1,39 @@
-ghost use Rattle.std.specs.Prelude.{◌≡◌, ◌<◌, ◌≤◌, map, string_bytes, IfSome};
-ghost use Rattle.dcr_app.specs.Command.{HasNumbers, before_numbers, command_in, load_with, nodes_with, number_in, run_by, run_with, serve_by, serve_with};
+ghost use Rattle.std.specs.Prelude.{◌≡◌, map, string_bytes, Some, None, MatchOption};
+ghost use Rattle.dcr_app.specs.Command.{alone, command_in, executed, number_alone, number_behind, number_in, run_with, serve_with, store_in, workers_in};
 
 use dcr_text::{decimal_is_one_number, read_decimal};
 
 /// What the program is asked for.
 #[derive(Clone, Copy)]
 pub enum Command {
-    /// Run a case by so many workers, 1 to 64, and write its report; its executions are kept in a store, or not.
-    Run {
-        workers: u32,
-        store: bool,
-    },
-    /// Serve so many sessions of a case over links, 1 to 1,024, by so many workers, 1 to 64, and write the report; the
-    /// executions are kept in a store, or not.
-    Serve {
-        sessions: u32,
-        workers: u32,
-        store: bool,
-    },
+    /// Run the case that the number spells, by one worker, and write a line about the run.
+    Load { number: u32 },
+    /// Answer the input.
+    Read { reading: Reading },
+}
+
+/// How an input is answered.
+#[derive(Clone, Copy)]
+pub enum Reading {
+    /// Execute a case in this way, and write its report; its executions are kept in a store, or not.
+    Execute { way: Way, store: bool },
     /// Check a report.
     Replay,
-    /// Run the case that the number spells, by one worker.
-    Load {
-        number: u32,
-    },
     /// Run the executions of a case at sites that talk by messages, over the network of a number, and write the report.
-    Nodes {
-        number: u32,
-    },
+    Nodes { number: u32 },
     /// Judge each trace of an event log by the whole graph of the case before it.
     Conform,
     /// Run several cases one after the other, each from where the one before it ended, and write their reports.
     Adapt,
+}
+
+/// How the sessions of a case are executed.
+#[derive(Clone, Copy)]
+pub enum Way {
+    /// Those that the case has, by so many workers, 1 to 64.
+    Run { workers: u32 },
+    /// So many, 1 to 1,024, over the links of the door, by so many workers, 1 to 64.
+    Serve { sessions: u32, workers: u32 },
 }
 
 // The most workers, and the most sessions that are served.
@@ -41,160 +43,128 @@ const MAX_SESSIONS: u32 = 1_024;
 
 /// The command that the words spell. None exactly where they spell none.
 pub(crate) fn command_of(words: &[String]) -> Option<Command>
-    ensures spelled { result ≡ command_in words.now }
-    ensures numbers { IfSome result HasNumbers }
+    ensures { result ≡ command_in words.now }
 {
-    let Some((word, rest)) = words.split_first() else {
-        return None;
-    };
-    if word.as_str() == "run" {
-        return run_of(rest);
+    let (word, rest) = words.split_first()?;
+    match word.as_str() {
+        "run" => run_of(rest),
+        "serve" => serve_of(rest),
+        "replay" => alone(Reading::Replay, rest),
+        "load" => {
+            let number = number_alone(rest)?;
+            Some(Command::Load { number })
+        }
+        "nodes" => {
+            let number = number_alone(rest)?;
+            Some(Command::Read {
+                reading: Reading::Nodes { number },
+            })
+        }
+        "conform" => alone(Reading::Conform, rest),
+        "adapt" => alone(Reading::Adapt, rest),
+        _ => None,
     }
-    if word.as_str() == "serve" {
-        return serve_of(rest);
+}
+
+// What nothing may stand behind.
+fn alone(reading: Reading, words: &[String]) -> Option<Command>
+    ensures { result ≡ alone reading (map string_bytes words.now) }
+{
+    if words.is_empty() {
+        Some(Command::Read { reading })
+    } else {
+        None
     }
-    if word.as_str() == "replay" && rest.is_empty() {
-        return Some(Command::Replay);
+}
+
+// The number of a case that is made, or of a network, where nothing else stands behind the word.
+fn number_alone(words: &[String]) -> Option<u32>
+    ensures { result ≡ number_alone (map string_bytes words.now) }
+{
+    match words {
+        [number] => number_of(number.as_str(), 0, u32::MAX),
+        _ => None,
     }
-    if word.as_str() == "load" {
-        return load_of(rest);
-    }
-    if word.as_str() == "nodes" {
-        return nodes_of(rest);
-    }
-    if word.as_str() == "conform" && rest.is_empty() {
-        return Some(Command::Conform);
-    }
-    if word.as_str() == "adapt" && rest.is_empty() {
-        return Some(Command::Adapt);
-    }
-    None
 }
 
 // The run that the words behind `run` ask for.
 fn run_of(words: &[String]) -> Option<Command>
-    ensures spelled { result ≡ run_with (map string_bytes words.now) }
-    ensures numbers { IfSome result HasNumbers }
+    ensures { result ≡ run_with (map string_bytes words.now) }
 {
-    match words {
-        [] => Some(Command::Run {
-            workers: 1,
-            store: false,
-        }),
-        [word] => {
-            if word.as_str() != "--store" {
-                return None;
-            }
-            Some(Command::Run {
-                workers: 1,
-                store: true,
-            })
-        }
-        [word, number] => {
-            if word.as_str() != "--workers" {
-                return None;
-            }
-            run_by(number_of(number.as_str(), 1, MAX_WORKERS), false)
-        }
-        [word, number, last] => {
-            if word.as_str() != "--workers" || last.as_str() != "--store" {
-                return None;
-            }
-            run_by(number_of(number.as_str(), 1, MAX_WORKERS), true)
-        }
-        _ => None,
-    }
+    let (workers, rest) = workers_of(words)?;
+    executed(Way::Run { workers }, store_of(rest))
 }
 
-// The run by so many workers, where a number of them was spelled.
-fn run_by(workers: Option<u32>, store: bool) -> Option<Command>
-    ensures { result ≡ run_by store workers }
+// How many workers are asked for, and the words behind that. Without the word for it there is one.
+fn workers_of(words: &[String]) -> Option<(u32, &[String])>
+    ensures { MatchOption result (workers_in (map string_bytes words.now) ≡ None)
+        (λ workers. workers_in (map string_bytes words.now) ≡ Some (workers.0, map string_bytes workers.1.now)) }
 {
-    let Some(workers) = workers else {
-        return None;
-    };
-    Some(Command::Run { workers, store })
+    match words.first() {
+        Some(word) if word.as_str() == "--workers" => number_behind(
+            words,
+            "--workers",
+            MAX_WORKERS,
+        ),
+        _ => Some((1, words)),
+    }
 }
 
 // The serving that the words behind `serve` ask for.
 fn serve_of(words: &[String]) -> Option<Command>
-    ensures spelled { result ≡ serve_with (map string_bytes words.now) }
-    ensures numbers { IfSome result HasNumbers }
+    ensures { result ≡ serve_with (map string_bytes words.now) }
+{
+    let (sessions, rest) = number_behind(words, "--sessions", MAX_SESSIONS)?;
+    let (workers, rest) = number_behind(rest, "--workers", MAX_WORKERS)?;
+    executed(Way::Serve { sessions, workers }, store_of(rest))
+}
+
+// The number from 1 on that stands behind this word, and the words behind that.
+fn number_behind<'a>(words: &'a [String], name: &str, most: u32) -> Option<(u32, &'a [String])>
+    ensures { MatchOption result (number_behind name.now most (map string_bytes words.now) ≡ None)
+        (λ number. number_behind name.now most (map string_bytes words.now) ≡ Some (number.0, map string_bytes number.1.now)) }
 {
     match words {
-        [first, sessions, second, workers] => {
-            if !are_before_numbers(first.as_str(), second.as_str()) {
+        [word, number, rest @ ..] => {
+            if word.as_str() != name {
                 return None;
             }
-            serve_by(sessions.as_str(), workers.as_str(), false)
-        }
-        [first, sessions, second, workers, last] => {
-            if !are_before_numbers(first.as_str(), second.as_str()) || last.as_str() != "--store" {
-                return None;
-            }
-            serve_by(sessions.as_str(), workers.as_str(), true)
+            let number = number_of(number.as_str(), 1, most)?;
+            Some((number, rest))
         }
         _ => None,
     }
 }
 
-// Whether these words stand before the numbers of sessions and of workers.
-fn are_before_numbers(first: &str, second: &str) -> bool
-    ensures { result ≡ before_numbers first.now second.now }
+// Whether a store is asked for. None where other words than that one stand there.
+fn store_of(words: &[String]) -> Option<bool>
+    ensures { result ≡ store_in (map string_bytes words.now) }
 {
-    first == "--sessions" && second == "--workers"
+    match words {
+        [] => Some(false),
+        [word] => {
+            if word.as_str() != "--store" {
+                return None;
+            }
+            Some(true)
+        }
+        _ => None,
+    }
 }
 
-// The serving whose numbers these words spell.
-fn serve_by(sessions: &str, workers: &str, store: bool) -> Option<Command>
-    ensures spelled { result ≡ serve_by store (number_in 1 1024 sessions.now) (number_in 1 64 workers.now) }
-    ensures numbers { IfSome result HasNumbers }
+// The execution of a case in a way, where the words behind that spell whether there is a store.
+fn executed(way: Way, store: Option<bool>) -> Option<Command>
+    ensures { result ≡ executed way store }
 {
-    let Some(sessions) = number_of(sessions, 1, MAX_SESSIONS) else {
-        return None;
-    };
-    let Some(workers) = number_of(workers, 1, MAX_WORKERS) else {
-        return None;
-    };
-    Some(Command::Serve {
-        sessions,
-        workers,
-        store,
+    let store = store?;
+    Some(Command::Read {
+        reading: Reading::Execute { way, store },
     })
-}
-
-// The load that the words behind `load` ask for.
-fn load_of(words: &[String]) -> Option<Command>
-    ensures spelled { result ≡ load_with (map string_bytes words.now) }
-    ensures numbers { IfSome result HasNumbers }
-{
-    let [number] = words else {
-        return None;
-    };
-    let Some(number) = number_of(number.as_str(), 0, u32::MAX) else {
-        return None;
-    };
-    Some(Command::Load { number })
-}
-
-// The run at sites apart that the words behind `nodes` ask for.
-fn nodes_of(words: &[String]) -> Option<Command>
-    ensures spelled { result ≡ nodes_with (map string_bytes words.now) }
-    ensures numbers { IfSome result HasNumbers }
-{
-    let [number] = words else {
-        return None;
-    };
-    let Some(number) = number_of(number.as_str(), 0, u32::MAX) else {
-        return None;
-    };
-    Some(Command::Nodes { number })
 }
 
 // The number from the one to the other that a word spells in decimal without leading zeros.
 fn number_of(word: &str, least: u32, most: u32) -> Option<u32>
-    ensures spelled { result ≡ number_in least most word.now }
-    ensures within { IfSome result (λ n. (least ≤ n) × (n ≤ most)) }
+    ensures { result ≡ number_in least most word.now }
 {
     // Two numbers have not one decimal form.
     decimal_is_one_number();

@@ -8,11 +8,14 @@ ghost use Rattle.dcr_log.specs.declared.trace.Trace.{Trace};
 ghost use Rattle.dcr_conform.specs.Judge.{AreJudged};
 ghost use Rattle.dcr_conform.specs.Lines.{judged_text};
 ghost use Rattle.dcr_conform.specs.declared.judged.Judged.{Judged};
-ghost use Rattle.dcr_app.specs.Logged.{AnswersLog, case_bytes, log_bytes, record_line};
+ghost use Rattle.dcr_app.specs.Answers.{AnswersPlain};
+ghost use Rattle.dcr_app.specs.Logged.{case_bytes, log_bytes};
 ghost use Rattle.dcr_app.specs.Outside.{IsStarved, Wrote};
+ghost use Rattle.dcr_app.specs.declared.command.Reading.TheVariants.{Conform};
 
+use crate::answer::Answer;
 use crate::lines::numbered;
-use crate::say::{refuse, say};
+use crate::say::{refuse, tell};
 use dcr_base::{Sink, Status};
 use dcr_conform::{LogStop, Trace, judge_all, read_log, write_judged};
 use dcr_graph::{Graph, Marking};
@@ -29,14 +32,14 @@ pub(crate) fn conform<O: Sink, R: Threads + Sync>(
     alloc: Global,
     bytes: &[u8],
     output: &mut O,
-) -> Status
+) -> Answer
     requires { length bytes.now ≤ 16777216 }
-    ensures { AnswersLog bytes.now (O.takes output.old) (O.takes output.new) result }
+    ensures { AnswersPlain Conform bytes.now (O.takes output.old) (O.takes output.new) result }
 {
     let (line, log) = parts(bytes);
     match read_accepted(alloc, line) {
         Ok(accepted) => conform_log(rt, alloc, &accepted.case, log, output),
-        Err(stop) => refuse(alloc, output, stop),
+        Err(stop) => refuse(alloc, output, &stop),
     }
 }
 
@@ -59,18 +62,24 @@ fn conform_log<O: Sink, R: Threads + Sync>(
     case: &Case,
     log: &[u8],
     output: &mut O,
-) -> Status
+) -> Answer
     requires case { IsCase case.now }
     requires few { length log.now < 2 ^ 32 }
     ensures { (bytes : List ℕ) → length bytes ≤ 16777216 → case_accepted (case_bytes bytes) ≡ Ok (case_of case.now) → log.now ≡ log_bytes bytes
-        → AnswersLog bytes (O.takes output.old) (O.takes output.new) result }
+        → AnswersPlain Conform bytes (O.takes output.old) (O.takes output.new) result }
 {
     // What the bytes of a case say.
     when_each_refusal_comes();
     match read_log(alloc, log) {
-        Ok(traces) => conform_traces(rt, alloc, &case.graph, &case.opening, &traces, output),
-        Err(LogStop::Bad { row }) => refuse_record(alloc, row, output),
-        Err(LogStop::NoMemory) => Status::NoMemory,
+        Ok(traces) => {
+            let status = conform_traces(rt, alloc, &case.graph, &case.opening, &traces, output);
+            Answer(status, None, None)
+        }
+        Err(LogStop::Bad { row }) => {
+            let line = numbered(alloc, b"refused 15 log ", row);
+            Answer(tell(output, line, Status::Refused), None, None)
+        }
+        Err(LogStop::NoMemory) => Answer(Status::NoMemory, None, None),
     }
 }
 
@@ -96,16 +105,5 @@ fn conform_traces<O: Sink, R: Threads + Sync>(
         Ok(()) => Status::Done,
         Err(ReportStop::WriteFault) => Status::WriteFault,
         Err(ReportStop::NoMemory) => Status::NoMemory,
-    }
-}
-
-// Tells the first bad record of a log.
-fn refuse_record<O: Sink>(alloc: Global, row: u32, output: &mut O) -> Status
-    ensures { IsStarved result (O.takes output.old) (O.takes output.new)
-        ⊎ Wrote Status.Refused (record_line row) result (O.takes output.old) (O.takes output.new) }
-{
-    match numbered(alloc, b"refused 15 log ", row) {
-        Ok(line) => say(output, &line, Status::Refused),
-        Err(_) => Status::NoMemory,
     }
 }

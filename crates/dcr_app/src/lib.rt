@@ -4,6 +4,7 @@
 #![tactic(auto)]
 
 mod adapt;
+mod alone;
 mod answer;
 mod apart;
 mod app;
@@ -13,10 +14,10 @@ mod lines;
 mod load;
 mod refusal;
 mod replay;
+mod report;
 mod run;
 mod say;
 mod stored;
-mod way;
 
 pub use app::{End, dcr};
 pub use dcr_base::Status;

@@ -1,32 +1,45 @@
-ghost use Rattle.std.specs.Prelude.{◌≡◌, ◌++◌, codes, decimal, IfOk};
+ghost use Rattle.std.specs.Prelude.{◌≡◌, ◌++◌, codes, decimal, IfOk, OnOk};
+ghost use Rattle.dcr_roles.specs.Accepted.{HadMemory};
 ghost use Rattle.dcr_app.specs.Refusal.{case_line, limit_text, part_text, policy_line, policy_text, refusal_line};
 
-use crate::lines::{named, numbered, numbered_twice, text, worded};
+use crate::lines::{
+    Line, and, and_name, and_number, line, named, numbered, numbered_twice, worded,
+};
 use dcr_graph::Name;
 use dcr_json::{CaseStop, LimitKind, Part};
 use dcr_roles::{AcceptStop, PolicyPart, PolicyStop};
 use dcr_set::NoMemory;
-use dcr_text::decimal;
 use std::alloc::Global;
 
-/// The line that tells why bytes are not accepted; nothing for want of memory. `NoMemory` where memory could not
-/// be had for the line itself.
-pub(crate) fn line_of(alloc: Global, stop: &AcceptStop) -> Result<Vec<u8>, NoMemory>
-    ensures { IfOk result (λ line. line.items ≡ refusal_line stop.now) }
+/// The line that tells why bytes are not accepted. `NoMemory` where that is want of memory, and where memory could not be
+/// had for the line itself.
+pub(crate) fn line_of(alloc: Global, stop: &AcceptStop) -> Line
+    ensures line { IfOk result (λ line. line.items ≡ refusal_line stop.now) }
+    ensures had { OnOk result (HadMemory stop.now) }
 {
     match stop {
-        AcceptStop::Case { stop } => case_line(alloc, stop),
-        AcceptStop::Policy { stop } => policy_line(alloc, stop),
+        AcceptStop::Case { stop } => {
+            if let CaseStop::NoMemory = stop {
+                return Err(NoMemory);
+            }
+            case_line(alloc, stop)
+        }
+        AcceptStop::Policy { stop } => {
+            if let PolicyStop::NoMemory = stop {
+                return Err(NoMemory);
+            }
+            policy_line(alloc, stop)
+        }
     }
 }
 
-/// The same where the bytes are no case.
-pub(crate) fn case_line(alloc: Global, stop: &CaseStop) -> Result<Vec<u8>, NoMemory>
+/// The same where the bytes are no case; nothing for want of memory.
+pub(crate) fn case_line(alloc: Global, stop: &CaseStop) -> Line
     ensures { IfOk result (λ line. line.items ≡ case_line stop.now) }
 {
     match stop {
-        CaseStop::TooLong => text(alloc, b"refused 1 too-long\n"),
-        CaseStop::NotJson => text(alloc, b"refused 2 not-json\n"),
+        CaseStop::TooLong => line(alloc, b"refused 1 too-long\n"),
+        CaseStop::NotJson => line(alloc, b"refused 2 not-json\n"),
         CaseStop::Shape { part, index } => {
             worded(alloc, b"refused 3 shape ", part_text(*part), *index)
         }
@@ -42,12 +55,12 @@ pub(crate) fn case_line(alloc: Global, stop: &CaseStop) -> Result<Vec<u8>, NoMem
         CaseStop::Owned { i, j } => numbered_twice(alloc, b"refused 10 owned ", *i, *j),
         CaseStop::Uncovered { a } => named(alloc, b"refused 11 uncovered ", a),
         CaseStop::CallLine { k, j } => numbered_twice(alloc, b"refused 12 call-line ", *k, *j),
-        CaseStop::NoMemory => text(alloc, b""),
+        CaseStop::NoMemory => line(alloc, b""),
     }
 }
 
 /// The same where the policy of a case is refused.
-pub(crate) fn policy_line(alloc: Global, stop: &PolicyStop) -> Result<Vec<u8>, NoMemory>
+pub(crate) fn policy_line(alloc: Global, stop: &PolicyStop) -> Line
     ensures { IfOk result (λ line. line.items ≡ policy_line stop.now) }
 {
     match stop {
@@ -55,34 +68,25 @@ pub(crate) fn policy_line(alloc: Global, stop: &PolicyStop) -> Result<Vec<u8>, N
             worded(alloc, b"refused 16 policy ", policy_text(*part), *index)
         }
         PolicyStop::Denied { k, j, role } => denied(alloc, *k, *j, role),
-        PolicyStop::NoMemory => text(alloc, b""),
+        PolicyStop::NoMemory => line(alloc, b""),
     }
 }
 
 // A call that is denied, and the role that it lacks.
-fn denied(alloc: Global, k: u32, j: u32, role: &Name) -> Result<Vec<u8>, NoMemory>
+fn denied(alloc: Global, k: u32, j: u32, role: &Name) -> Line
     ensures { IfOk result (λ line. line.items ≡ codes "refused 17 denied " ++ decimal k ++ codes " " ++ decimal j ++ codes " " ++ role.now ++ codes "\n") }
 {
-    let mut line = text(alloc, b"refused 17 denied ")?;
-    decimal(u64::from(k), &mut line)?;
-    line.extend_from_slice(b" ")?;
-    decimal(u64::from(j), &mut line)?;
-    line.extend_from_slice(b" ")?;
-    line.extend_from_slice(role.text().as_bytes())?;
-    line.extend_from_slice(b"\n")?;
-    Ok(line)
+    let line = and(and_number(line(alloc, b"refused 17 denied "), k), b" ");
+    let line = and(and_number(line, j), b" ");
+    and(and_name(line, role), b"\n")
 }
 
 // The names of a pair that is both included and excluded.
-fn clash(alloc: Global, a: &Name, b: &Name) -> Result<Vec<u8>, NoMemory>
+fn clash(alloc: Global, a: &Name, b: &Name) -> Line
     ensures { IfOk result (λ line. line.items ≡ codes "refused 9 clash " ++ a.now ++ codes " " ++ b.now ++ codes "\n") }
 {
-    let mut line = text(alloc, b"refused 9 clash ")?;
-    line.extend_from_slice(a.text().as_bytes())?;
-    line.extend_from_slice(b" ")?;
-    line.extend_from_slice(b.text().as_bytes())?;
-    line.extend_from_slice(b"\n")?;
-    Ok(line)
+    let line = and(and_name(line(alloc, b"refused 9 clash "), a), b" ");
+    and(and_name(line, b), b"\n")
 }
 
 // The word of a part of a file.

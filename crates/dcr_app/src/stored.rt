@@ -1,37 +1,60 @@
-// A case that is executed over a store.
-ghost use Rattle.std.specs.Prelude.{◌≡◌, ◌≢◌, ◌≤◌, length, false, IsTrue};
-ghost use Rattle.dcr_graph.specs.Cause.{waits};
-ghost use Rattle.dcr_graph.specs.GraphValue.{rules_of};
-ghost use Rattle.dcr_graph.specs.Projection.{HasRoom};
-ghost use Rattle.dcr_journal.specs.Run.{after, marks_at, IsLegal};
+// A case that is executed, over the disk where there is a store.
+ghost use Rattle.std.specs.Prelude.{◌≡◌, ◌≤◌, List, ℕ, length, [], true, false, Some, Ok, IfOk, IfErr, IsTrue, ⊤};
+ghost use Rattle.dcr_base.specs.Side.{Side};
 ghost use Rattle.dcr_turn.specs.Pushing.{EndsWithoutFault};
+ghost use Rattle.dcr_tape.specs.Found.{CountsFaultOf};
+ghost use Rattle.dcr_tape.specs.Opening.{Refused};
 ghost use Rattle.dcr_cell.specs.Stored.{MayBegin};
 ghost use Rattle.dcr_json.specs.Built.{case_of, IsCase};
-ghost use Rattle.dcr_roles.specs.Accepted.{IsAccepted};
+ghost use Rattle.dcr_roles.specs.Accepted.{accepted_in, both_of, IsAccepted};
 ghost use Rattle.dcr_report.specs.Report.{report_text};
+ghost use Rattle.dcr_app.specs.Answers.{TellsRun};
 ghost use Rattle.dcr_app.specs.Command.{AreSessions, AreWorkers, IsWay};
-ghost use Rattle.dcr_app.specs.Outside.{IsOfReport, Wrote};
-ghost use Rattle.dcr_app.specs.Stored.{EndsOver, disk_in, tape_cause};
-ghost use Rattle.dcr_app.specs.Telling.{IsDueBy, IsUnasked, LeavesBy, LeavesWith, by_workers, over_links, told_by};
+ghost use Rattle.dcr_app.specs.Headline.{digest_of};
+ghost use Rattle.dcr_app.specs.Outside.{Wrote};
+ghost use Rattle.dcr_app.specs.Stored.{Begins, IsRunOn, IsUnrun, LeavesDisk, RanOver, RefusedOver, disk_in, tape_cause};
+ghost use Rattle.dcr_app.specs.Telling.{IsDueBy, LeavesDoor, LeavesServed, by_workers, over_links, told_by};
+ghost use Rattle.dcr_app.specs.declared.command.Command.TheVariants.{Read};
+ghost use Rattle.dcr_app.specs.declared.command.Reading.TheVariants.{Execute};
 
-use crate::End;
-use crate::say::refuse_tape;
-use crate::way::Way;
-use dcr_base::{Disk, Door, Gate, Link, Sink, Status};
+use crate::command::Way;
+use dcr_base::{Disk, Door, Gate, Link, Status};
 use dcr_cluster::{Finished, OpenCause, OpenRefused};
 use dcr_engine::{CaseServed, CaseUnserved, MAX_ENTRIES, run_case, serve_case};
 use dcr_journal::{Closed, Outcome};
 use dcr_json::Case;
-use dcr_report::{ReportStop, write_report};
-use dcr_roles::Accepted;
-use dcr_tape::{Store, TapeCause, TapeEntry};
+use dcr_report::case_digest;
+use dcr_roles::{Accepted, when_each_refusal_comes};
+use dcr_serving::LinkEnd;
+use dcr_tape::{Store, TapeCause, TapeEntry, TapeRefused, one_list, open_tape};
 use std::alloc::Global;
 use std::sync::Wait;
 use std::thread::Threads;
 
-/// Executes a case over a store, which has these executions from before, and writes the report.
+/// A case that was executed.
+#[derive(Drop)]
+pub(crate) struct Ran<B: Door, D> {
+    pub(crate) closed: Closed,
+    /// The status with which its report is due.
+    pub(crate) due: Status,
+    /// Whether memory was wanted and could not be had, for the serving itself or by a session.
+    pub(crate) no_memory: bool,
+    pub(crate) door: B,
+    pub(crate) disk: D,
+    /// How the session over each link has ended that the door gave, in order.
+    pub(crate) ends: Vec<LinkEnd<B::Link>>,
+}
+
+/// A case of which no call was made, for this cause. The door was not asked.
+#[derive(Drop)]
+pub(crate) struct Unrun<B, D> {
+    pub(crate) cause: TapeCause,
+    pub(crate) door: B,
+    pub(crate) disk: D,
+}
+
+/// Executes a case. With a store it goes on from the executions that the disk stands for, and keeps its own there.
 pub(crate) fn run_over<
-    O: Sink,
     B: Door<Link: Link<Rest: Send> + Send> + Send,
     D: Disk + Send,
     G: Gate + Drop + Sync,
@@ -40,62 +63,88 @@ pub(crate) fn run_over<
     rt: &R,
     alloc: Global,
     way: Way,
+    store: bool,
     accepted: &Accepted,
-    store: Store<D>,
-    old: &[TapeEntry],
-    output: &mut O,
     door: B,
+    disk: D,
     gate: G,
-) -> End<B, D>
+) -> Result<Ran<B, D>, Unrun<B, D>>
     requires way { IsWay way }
     requires accepted { IsAccepted accepted.now }
-    requires few_old { length old.now ≤ 1000000 }
-    requires begins { MayBegin D.view old.now store }
-    ensures over { EndsOver D.view D.faults (told_by B.tells
-        door result.door result.ends.items way)
-        (case_of accepted.now.case) accepted.now.policy old.now store result.disk (O.takes output.old) (O.takes output.new)
-        result.status result.closed }
-    ensures door { LeavesBy B.tells
-        way result.closed door result.door result.ends.items result.status }
-    ensures world { result.world ≡ None }
+    ensures ran { IfOk result (λ ran. (bytes : List ℕ) (had took : Side) (status : Status) → accepted_in bytes ≡ Ok (both_of accepted.now)
+        → Wrote ran.due (report_text accepted.now.case.nested accepted.now.case.cover ran.closed.opening ran.closed.history.entries) status had took
+        → TellsRun D.view D.faults (told_by B.tells door ran.door ran.ends.items way) store disk ran.disk (Some bytes) ⊤ had took status ran.closed
+        × LeavesDisk store D.view D.faults (Some bytes) disk ran.disk status (Some ran.closed)) }
+    ensures run { IfOk result (λ ran. IsRunOn accepted.now.case.graph accepted.now.case.cover.owned ran.closed) }
+    ensures door { IfOk result (λ ran. (text : List ℕ) (had took : Side) (status : Status) → (IsTrue ran.no_memory → status ≡ Status.NoMemory)
+        → Wrote ran.due text status had took
+        → LeavesDoor B.tells (Some (Read (Execute way store))) (Some ran.closed) door ran.door ran.ends.items status) }
+    ensures unrun { IfErr result (λ unrun. IsUnrun D.view D.faults store (case_of accepted.now.case) disk unrun.disk unrun.cause) }
+    ensures unasked { IfErr result (λ unrun. unrun.door ≡ door) }
 {
-    match way {
-        Way::Run { workers } => by_workers(
-            rt, alloc, workers, accepted, store, old, output, door, gate,
-        ),
-        Way::Serve { sessions, workers } => over_links(
-            rt, alloc, sessions, workers, accepted, store, old, output, door, gate,
-        ),
+    // What the bytes of a case say, for the headline, and that a disk stands for one list.
+    when_each_refusal_comes();
+    one_list();
+    match begin(alloc, store, &accepted.case, disk) {
+        Ok((first, old)) => match way {
+            Way::Run { workers } => by_workers(
+                rt, alloc, workers, accepted, first, &old, door, gate,
+            ),
+            Way::Serve { sessions, workers } => over_links(
+                rt, alloc, sessions, workers, accepted, first, &old, door, gate,
+            ),
+        },
+        Err(TapeRefused { cause, disk }) => Err(Unrun { cause, door, disk }),
     }
 }
 
-// Runs the sessions of a case.
-fn by_workers<
-    O: Sink,
-    B: Door<Link: Link<Rest: Send> + Send> + Send,
-    D: Disk + Send,
-    G: Gate + Drop + Sync,
-    R: Threads + Wait + Sync,
->(
+// The store that a run of a case begins with, and the executions from before.
+fn begin<D: Disk>(
+    alloc: Global,
+    store: bool,
+    case: &Case,
+    disk: D,
+) -> Result<(Store<D>, Vec<TapeEntry>), TapeRefused<D>>
+    requires { IsCase case.now }
+    ensures begun { IfOk result (λ begun. Begins D.view D.faults (digest_of (case_of case.now)) store disk begun.0 begun.1.items) }
+    ensures stored { IfErr result (λ refused. store ≡ true) }
+    ensures refused { IfErr result (λ refused. Refused (D.view disk) (D.view refused.disk) (digest_of (case_of case.now)) refused.cause) }
+    ensures counts { IfErr result (λ refused. CountsFaultOf refused.cause (D.faults disk) (D.faults refused.disk)) }
+{
+    if !store {
+        return Ok((Store::Off(disk), Vec::new(alloc)));
+    }
+    let digest = case_digest(alloc, &case.nested, &case.graph, &case.cover, &case.opening);
+    let Ok(digest) = digest else {
+        let cause = TapeCause::NoMemory;
+        return Err(TapeRefused { cause, disk });
+    };
+    match open_tape(alloc, disk, &digest) {
+        Ok((tape, old)) => Ok((Store::On(tape), old)),
+        Err(refused) => Err(refused),
+    }
+}
+
+// Runs the sessions of a case, over a store.
+fn by_workers<B: Door, D: Disk + Send, G: Gate + Drop + Sync, R: Threads + Wait + Sync>(
     rt: &R,
     alloc: Global,
     workers: u32,
     accepted: &Accepted,
     store: Store<D>,
     old: &[TapeEntry],
-    output: &mut O,
     door: B,
     gate: G,
-) -> End<B, D>
+) -> Result<Ran<B, D>, Unrun<B, D>>
     requires workers { AreWorkers workers }
     requires accepted { IsAccepted accepted.now }
     requires few_old { length old.now ≤ 1000000 }
     requires begins { MayBegin D.view old.now store }
-    ensures over { EndsOver D.view D.faults (by_workers workers)
-        (case_of accepted.now.case) accepted.now.policy old.now store result.disk (O.takes output.old) (O.takes output.new)
-        result.status result.closed }
-    ensures door { IsUnasked door result.door result.ends.items }
-    ensures world { result.world ≡ None }
+    ensures ran { IfOk result (λ ran. RanOver D.view D.faults (by_workers workers) (case_of accepted.now.case) accepted.now.policy old.now store ran.disk ran.due ran.closed) }
+    ensures run { IfOk result (λ ran. IsRunOn accepted.now.case.graph accepted.now.case.cover.owned ran.closed) }
+    ensures unserved { IfOk result (λ ran. (ran.door ≡ door) × (ran.ends.items ≡ [])) }
+    ensures refused { IfErr result (λ unrun. RefusedOver D.view D.faults (case_of accepted.now.case) old.now store unrun.disk unrun.cause) }
+    ensures unasked { IfErr result (λ unrun. unrun.door ≡ door) }
 {
     let case = &accepted.case;
     let ran = run_case(
@@ -111,32 +160,24 @@ fn by_workers<
         gate,
     );
     match ran {
-        Ok(Finished { closed, store }) => {
-            let due = due_for(&closed);
-            let status = report(alloc, case, &closed, due, output);
-            End {
-                status,
-                closed: Some(closed),
-                door,
-                disk: disk_of(store),
-                ends: Vec::new(alloc),
-                world: None,
-            }
-        }
-        Err(OpenRefused { cause, store }) => End {
-            status: refuse_tape(alloc, output, cause_of(cause)),
-            closed: None,
+        Ok(Finished { closed, store }) => Ok(Ran {
+            due: due_for(&closed),
+            closed,
+            no_memory: false,
             door,
             disk: disk_of(store),
             ends: Vec::new(alloc),
-            world: None,
-        },
+        }),
+        Err(OpenRefused { cause, store }) => Err(Unrun {
+            cause: cause_of(cause),
+            door,
+            disk: disk_of(store),
+        }),
     }
 }
 
-// Serves so many sessions over the links of the door.
+// Serves so many sessions over the links of the door, over a store.
 fn over_links<
-    O: Sink,
     B: Door<Link: Link<Rest: Send> + Send> + Send,
     D: Disk + Send,
     G: Gate + Drop + Sync,
@@ -149,22 +190,21 @@ fn over_links<
     accepted: &Accepted,
     store: Store<D>,
     old: &[TapeEntry],
-    output: &mut O,
     door: B,
     gate: G,
-) -> End<B, D>
+) -> Result<Ran<B, D>, Unrun<B, D>>
     requires sessions { AreSessions sessions }
     requires workers { AreWorkers workers }
     requires accepted { IsAccepted accepted.now }
     requires few_old { length old.now ≤ 1000000 }
     requires begins { MayBegin D.view old.now store }
-    ensures over { EndsOver D.view D.faults (over_links B.tells
-        door result.door sessions result.ends.items)
-        (case_of accepted.now.case) accepted.now.policy old.now store result.disk (O.takes output.old) (O.takes output.new)
-        result.status result.closed }
-    ensures door { LeavesWith B.tells
-        sessions result.closed door result.door result.ends.items result.status }
-    ensures world { result.world ≡ None }
+    ensures ran { IfOk result (λ ran. RanOver D.view D.faults (over_links B.tells door ran.door sessions ran.ends.items)
+        (case_of accepted.now.case) accepted.now.policy old.now store ran.disk ran.due ran.closed) }
+    ensures run { IfOk result (λ ran. IsRunOn accepted.now.case.graph accepted.now.case.cover.owned ran.closed) }
+    ensures served { IfOk result (λ ran. (text : List ℕ) (had took : Side) (status : Status) → (IsTrue ran.no_memory → status ≡ Status.NoMemory)
+        → Wrote ran.due text status had took → LeavesServed B.tells door ran.door sessions ran.ends.items status) }
+    ensures refused { IfErr result (λ unrun. RefusedOver D.view D.faults (case_of accepted.now.case) old.now store unrun.disk unrun.cause) }
+    ensures unasked { IfErr result (λ unrun. unrun.door ≡ door) }
 {
     let case = &accepted.case;
     let served = serve_case(
@@ -192,26 +232,22 @@ fn over_links<
             },
         ) => {
             let Finished { closed, store } = finished;
-            let status = report_served(alloc, case, &closed, door_failed, no_memory, output);
-            End {
-                status,
-                closed: Some(closed),
+            Ok(Ran {
+                due: due_served(&closed, door_failed),
+                closed,
+                no_memory,
                 door,
                 disk: disk_of(store),
                 ends,
-                world: None,
-            }
+            })
         }
         Err(CaseUnserved { refused, door }) => {
             let OpenRefused { cause, store } = refused;
-            End {
-                status: refuse_tape(alloc, output, cause_of(cause)),
-                closed: None,
+            Err(Unrun {
+                cause: cause_of(cause),
                 door,
                 disk: disk_of(store),
-                ends: Vec::new(alloc),
-                world: None,
-            }
+            })
         }
     }
 }
@@ -235,69 +271,6 @@ fn cause_of(cause: OpenCause) -> TapeCause
         OpenCause::BadTape { at } => TapeCause::BadTape { at },
         OpenCause::DiskFault => TapeCause::DiskFault,
     }
-}
-
-/// Writes the report of a run, which is due with this status.
-pub(crate) fn report<O: Sink>(
-    alloc: Global,
-    case: &Case,
-    closed: &Closed,
-    due: Status,
-    output: &mut O,
-) -> Status
-    requires case { IsCase case.now }
-    requires opening { HasRoom (length case.now.graph.names) closed.now.opening }
-    requires legal { IsLegal (rules_of case.now.graph) case.now.cover.owned closed.now.opening closed.now.history.entries }
-    requires marks { closed.now.marks ≡ marks_at (rules_of case.now.graph) case.now.cover.owned
-        (after (rules_of case.now.graph) closed.now.opening closed.now.history.entries) }
-    requires verdict { closed.now.waits ≡ waits (length case.now.graph.names)
-        (after (rules_of case.now.graph) closed.now.opening closed.now.history.entries) }
-    requires due { IsOfReport due }
-    ensures { Wrote due (report_text case.now.nested case.now.cover closed.now.opening closed.now.history.entries) result
-        (O.takes output.old) (O.takes output.new) }
-{
-    match write_report(
-        alloc,
-        &case.nested,
-        &case.graph,
-        &case.cover,
-        closed,
-        output,
-    ) {
-        Ok(()) => due,
-        Err(ReportStop::WriteFault) => Status::WriteFault,
-        Err(ReportStop::NoMemory) => Status::NoMemory,
-    }
-}
-
-// Writes the report of sessions over links. Nothing is written where a session wanted memory.
-fn report_served<O: Sink>(
-    alloc: Global,
-    case: &Case,
-    closed: &Closed,
-    door_failed: bool,
-    no_memory: bool,
-    output: &mut O,
-) -> Status
-    requires case { IsCase case.now }
-    requires opening { HasRoom (length case.now.graph.names) closed.now.opening }
-    requires legal { IsLegal (rules_of case.now.graph) case.now.cover.owned closed.now.opening closed.now.history.entries }
-    requires marks { closed.now.marks ≡ marks_at (rules_of case.now.graph) case.now.cover.owned
-        (after (rules_of case.now.graph) closed.now.opening closed.now.history.entries) }
-    requires verdict { closed.now.waits ≡ waits (length case.now.graph.names)
-        (after (rules_of case.now.graph) closed.now.opening closed.now.history.entries) }
-    ensures wrote { (due : Status) × IsDueBy (EndsWithoutFault closed.now.history.entries) (length closed.now.history.entries ≡ 200000)
-        (IsTrue door_failed) due
-        × Wrote due (report_text case.now.nested case.now.cover closed.now.opening closed.now.history.entries) result
-        (O.takes output.old) (O.takes output.new) }
-    ensures wanted { IsTrue no_memory → result ≡ Status.NoMemory }
-    ensures unfailed { result ≡ Status.Done → door_failed ≡ false }
-{
-    let due = due_served(closed, door_failed);
-    if no_memory {
-        return Status::NoMemory;
-    }
-    report(alloc, case, closed, due, output)
 }
 
 // The status with which the report of a run is due. A failed execution is the last entry.

@@ -39,7 +39,9 @@ impl<N: ClusterName> Cell<N> {
     ghost use Rattle.dcr_cell.specs.Laws.{asked};
 
     /// What was found of a call becomes what is found where this site is asked besides those that found it. It answers
-    /// by its own marks, and keeps what it found until they change.
+    /// by its own marks, and keeps what it found until they change. It is inlined where the locks are taken, since most
+    /// sites that hear of an execution aren't asked.
+    #[inline(always)]
     pub fn ask(&mut self, call: &Call, found: &mut Outcome)
         requires named { IsNamed N.cluster N.turn }
         requires call { IsCall N.cluster call.now }
@@ -78,6 +80,7 @@ impl<N: ClusterName> Cell<N> {
     }
 
     // What the one site that a call asks answers.
+    #[inline(never)]
     fn answer(&mut self, call: &Call, told: &mut Outcome)
         requires named { IsNamed N.cluster N.turn }
         requires call { IsCall N.cluster call.now }

@@ -15,9 +15,8 @@ use Rattle.dcr_graph.specs.declared.kind.Kind.TheVariants.{Response, Include, Ex
 use Rattle.dcr_graph.specs.declared.marking.Marking.{Marking}
 use Rattle.dcr_proj.specs.CoverValue.{atoms_of}
 use Rattle.dcr_proj.specs.Masks.{AreMasks}
-use Rattle.dcr_proj.specs.Rows.{GuardMasks, EffectMasks, guards_of, effects_of, effects_within, rows_where, guard_rows, effect_rows, guard_row, effect_row, guard_masks, effect_masks, AreGuards, AreEffects}
-use Rattle.dcr_proj.specs.declared.rows.GuardRow.{GuardRow}
-use Rattle.dcr_proj.specs.declared.rows.EffectRow.{EffectRow}
+use Rattle.dcr_proj.specs.Rows.{GuardMasks, EffectMasks, guards_of, effects_of, effects_within, rows_where, guard_rows, effect_rows, event_row, guard_masks, effect_masks, AreGuards, AreEffects}
+use Rattle.dcr_proj.specs.declared.rows.EventRow.{EventRow}
 use Rattle.dcr_proj.specs.Alphabet.{alphabet_within}
 use Rattle.dcr_proj.specs.Local.{Local, projection_of, cut_to}
 use Rattle.dcr_proj.specs.ProjectionModel.{local_of, IsLocal, FitsLocal, GuardsFit, EffectsFit}
@@ -43,13 +42,13 @@ module _ (p : Inside) (fits : FitsLocal p) where
   room_at k within = mask_room p.masks.items k fits.masks within ∙ fits.rooms
 
   guards_at : (e : ℕ) (b : Bool) → e < length p.own → has p.own e ≡ b
-      → GuardsFit (length p.own) p.own e (cond b (Some (guard_masks p.masks.items (guard_row p.guards.items e))) None)
-  guards_at e true below is = let at = fits.guards e below in (room_at _ at.condition, room_at _ at.milestone)
+      → GuardsFit (length p.own) p.own e (cond b (Some (guard_masks p.masks.items (event_row p.rows.items p.numbers.items e).guards)) None)
+  guards_at e true below is = let at = fits.guards e below in (room_at _ at.condition.within, room_at _ at.milestone.within)
   guards_at e false below is = is
 
   effects_at : (e : ℕ) (b : Bool) → e < length p.own → has p.alphabet e ≡ b
-      → EffectsFit (length p.own) p.alphabet e (cond b (Some (effect_masks p.masks.items (effect_row p.effects.items e))) None)
-  effects_at e true below is = let at = fits.effects e below in (room_at _ at.response, room_at _ at.include, room_at _ at.exclude, room_at _ at.cancel)
+      → EffectsFit (length p.own) p.alphabet e (cond b (Some (effect_masks p.masks.items (event_row p.rows.items p.numbers.items e).effects)) None)
+  effects_at e true below is = let at = fits.effects e below in (room_at _ at.response.within, room_at _ at.include.within, room_at _ at.exclude.within, room_at _ at.cancel.within)
   effects_at e false below is = is
 
   pub is_local : IsLocal (local_of p)
@@ -58,36 +57,47 @@ module _ (p : Inside) (fits : FitsLocal p) where
     tracked_ex = fits.tracked_ex;
     tracked_re = fits.tracked_re;
     alphabet = fits.alphabet;
-    as_many_guards = length-rows_where (length p.own) (has p.own) (λ e. guard_masks p.masks.items (guard_row p.guards.items e));
-    as_many_effects = length-rows_where (length p.own) (has p.alphabet) (λ e. effect_masks p.masks.items (effect_row p.effects.items e));
+    as_many_guards = length-rows_where (length p.own) (has p.own) (λ e. guard_masks p.masks.items (event_row p.rows.items p.numbers.items e).guards);
+    as_many_effects = length-rows_where (length p.own) (has p.alphabet) (λ e. effect_masks p.masks.items (event_row p.rows.items p.numbers.items e).effects);
     guards = λ e below.
-        subst (GuardsFit (length p.own) p.own e) (sym (row_at (length p.own) (has p.own) (λ k. guard_masks p.masks.items (guard_row p.guards.items k)) e below))
+        subst (GuardsFit (length p.own) p.own e) (sym (row_at (length p.own) (has p.own) (λ k. guard_masks p.masks.items (event_row p.rows.items p.numbers.items k).guards) e below))
         (guards_at e (has p.own e) below refl);
     effects = λ e below.
-        subst (EffectsFit (length p.own) p.alphabet e) (sym (row_at (length p.own) (has p.alphabet) (λ k. effect_masks p.masks.items (effect_row p.effects.items k)) e below))
+        subst (EffectsFit (length p.own) p.alphabet e) (sym (row_at (length p.own) (has p.alphabet) (λ k. effect_masks p.masks.items (event_row p.rows.items p.numbers.items k).effects) e below))
         (effects_at e (has p.alphabet e) below refl);
   }
 
--- what was read at the place of an event: there are masks under its numbers, and they are its row
-module _ (p : Inside) (fits : FitsLocal p) (P : Local) (view : local_of p ≡ P) (e i : ℕ) (same : i ≡ e) where
-  pub guards_read : (g : GuardRow) → has P.own e ≡ true → g ≡ get_or p.guards.items i g → AreGuards p.masks.items g × (get_or P.guards e None ≡ Some (guard_masks p.masks.items g))
-  guards_read g owned read =
+-- the number that was read for an atom is that of a row
+pub numbered_within : (p : Inside) → FitsLocal p → (e i number : ℕ) → i ≡ e → number ≡ get_or p.numbers.items i number → e < length p.own → number < length p.rows.items
+numbered_within p fits e i number same numbered below =
+    subst (λ k. k < length p.rows.items) (sym (read_row p.numbers.items i e number 0 same (omega (arith, fits.as_many_numbers)) numbered)) (fits.numbers e below)
+
+-- what was read for an event, its number first: there are masks at the places of its row, and they are those of the event
+module _ (p : Inside) (fits : FitsLocal p) (P : Local) (view : local_of p ≡ P) (e i number : ℕ) (row : EventRow) (same : i ≡ e)
+    (numbered : number ≡ get_or p.numbers.items i number) (read : (k : ℕ) → k ≡ number → row ≡ get_or p.rows.items k row) where
+  row_read : e < length p.own → row ≡ event_row p.rows.items p.numbers.items e
+  row_read below =
+      let its : number ≡ get_or p.numbers.items e 0 = read_row p.numbers.items i e number 0 same (omega (arith, fits.as_many_numbers)) numbered in
+      read_row p.rows.items number (get_or p.numbers.items e 0) row _ its (fits.numbers e below) (read number refl)
+
+  pub guards_read : has P.own e ≡ true → AreGuards p.masks.items row.guards × (get_or P.guards e None ≡ Some (guard_masks p.masks.items row.guards))
+  guards_read owned =
       let member : has p.own e ≡ true = ap (λ Q. has Q.own e) view ∙ owned in
       let below = below_room p.own e member in
-      let found : g ≡ guard_row p.guards.items e = read_row p.guards.items i e g (guard_row [] 0) same (omega (arith, fits.as_many_guards)) read in (
-        subst (AreGuards p.masks.items) (sym found) (fits.guards e below),
-        ap (λ Q. get_or Q.guards e None) (sym view) ∙ row_there (length p.own) (has p.own) (λ k. guard_masks p.masks.items (guard_row p.guards.items k)) e below member
-            ∙ ap (λ r. Some (guard_masks p.masks.items r)) (sym found),
+      let found = row_read below in (
+        subst (λ r. AreGuards p.masks.items r.guards) (sym found) (fits.guards e below),
+        ap (λ Q. get_or Q.guards e None) (sym view) ∙ row_there (length p.own) (has p.own) (λ k. guard_masks p.masks.items (event_row p.rows.items p.numbers.items k).guards) e below member
+            ∙ ap (λ r. Some (guard_masks p.masks.items r.guards)) (sym found),
       )
 
-  pub effects_read : (f : EffectRow) → has P.alphabet e ≡ true → f ≡ get_or p.effects.items i f → AreEffects p.masks.items f × (get_or P.effects e None ≡ Some (effect_masks p.masks.items f))
-  effects_read f heard read =
+  pub effects_read : has P.alphabet e ≡ true → AreEffects p.masks.items row.effects × (get_or P.effects e None ≡ Some (effect_masks p.masks.items row.effects))
+  effects_read heard =
       let member : has p.alphabet e ≡ true = ap (λ Q. has Q.alphabet e) view ∙ heard in
       let below : e < length p.own = (let within = below_room p.alphabet e member in omega (arith, fits.alphabet)) in
-      let found : f ≡ effect_row p.effects.items e = read_row p.effects.items i e f (effect_row [] 0) same (omega (arith, fits.as_many_effects)) read in (
-        subst (AreEffects p.masks.items) (sym found) (fits.effects e below),
-        ap (λ Q. get_or Q.effects e None) (sym view) ∙ row_there (length p.own) (has p.alphabet) (λ k. effect_masks p.masks.items (effect_row p.effects.items k)) e below member
-            ∙ ap (λ r. Some (effect_masks p.masks.items r)) (sym found),
+      let found = row_read below in (
+        subst (λ r. AreEffects p.masks.items r.effects) (sym found) (fits.effects e below),
+        ap (λ Q. get_or Q.effects e None) (sym view) ∙ row_there (length p.own) (has p.alphabet) (λ k. effect_masks p.masks.items (event_row p.rows.items p.numbers.items k).effects) e below member
+            ∙ ap (λ r. Some (effect_masks p.masks.items r.effects)) (sym found),
       )
 
 -- the alphabet and the effects told by tests and by the sets of what passes

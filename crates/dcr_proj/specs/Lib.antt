@@ -2,8 +2,10 @@ pub mod CoverValue
 pub mod CoverModel
 pub mod NetworkValue
 pub mod NetworkModel
+pub mod Once
 pub mod Masks
 pub mod Rows
+pub mod MarksAfter
 pub mod Alphabet
 pub mod Local
 pub mod ProjectionModel

@@ -1,8 +1,9 @@
 -- The masks of a projection, each of which lies under a number: the first, under 0, has no event.
-use Rattle.std.specs.Prelude.{◌≡◌, ◌≢◌, ◌==◌, ℕ, ◌<◌, ◌≤◌, List, length, Option, unwrap_or, slice_index}
+use Rattle.std.specs.Prelude.{◌≡◌, ◌==◌, ℕ, ◌<◌, ◌≤◌, List, length, IfSome}
 use Rattle.dcr_set.specs.EventSet.{Set, no_event, those}
 use Rattle.dcr_graph.specs.Rows.{row}
 use Rattle.dcr_proj.specs.CoverValue.{atoms_of, HaveOneRoom}
+use Rattle.dcr_proj.specs.declared.masks.Place.{Place}
 
 -- masks over the same atoms, the first of which has no event
 pub record AreMasks (masks : List Set) : Type 0 where
@@ -15,12 +16,12 @@ pub record KeepsMasks (old new : List Set) : Type 0 where
   pub as_many : length old ≤ length new
   pub same : (k : ℕ) → k < length old → row new k ≡ row old k
 
--- a mask where there is one, else one that has no event
-abbrev pub or_nothing : ℕ → Option Set → Set
-or_nothing n mask = unwrap_or mask (no_event n)
+-- the event that is told of a mask is its only one
+pub record HasAlone (masks : List Set) (number e : ℕ) : Type 0 where
+  pub atom : e < atoms_of masks
+  pub only : row masks number ≡ those (atoms_of masks) (λ k. k == e)
 
--- the number that is known for an event, where one is, is that of the mask that has this event alone
-pub record AreSingles (masks : List Set) (singles : List ℕ) : Type 0 where
-  pub as_many : length singles ≡ atoms_of masks
-  pub within : (e : ℕ) → slice_index singles e ≢ 0 → slice_index singles e < length masks
-  pub single : (e : ℕ) → slice_index singles e ≢ 0 → row masks (slice_index singles e) ≡ those (atoms_of masks) (λ k. k == e)
+-- a mask lies there
+pub record IsPlace (masks : List Set) (place : Place) : Type 0 where
+  pub within : place.number < length masks
+  pub alone : IfSome place.alone (HasAlone masks place.number)

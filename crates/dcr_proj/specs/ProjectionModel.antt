@@ -1,10 +1,10 @@
 -- What the fields of a projection stand for.
-use Rattle.std.specs.Prelude.{◌≡◌, ℕ, ◌<◌, false, length, Option, Some, None, slice_index_or}
+use Rattle.std.specs.Prelude.{◌≡◌, ℕ, ◌<◌, false, length, Option, Some, None, slice_index, slice_index_or}
 use Rattle.dcr_set.specs.EventSet.{Set, has}
 use Rattle.dcr_proj.specs.CoverValue.{atoms_of}
 use Rattle.dcr_proj.specs.Local.{Local}
 use Rattle.dcr_proj.specs.Masks.{AreMasks}
-use Rattle.dcr_proj.specs.Rows.{GuardMasks, EffectMasks, rows_where, guard_row, effect_row, guard_masks, effect_masks, AreGuards, AreEffects}
+use Rattle.dcr_proj.specs.Rows.{GuardMasks, EffectMasks, rows_where, event_row, guard_masks, effect_masks, AreGuards, AreEffects}
 use Rattle.dcr_proj.specs.declared.projection.Projection.TheInside.{Inside}
 
 -- the rows are those of the events of a set: what guards the owned ones, and what those of the alphabet do
@@ -15,8 +15,8 @@ local_of p = record {
   tracked_ex = p.tracked_ex;
   tracked_re = p.tracked_re;
   alphabet = p.alphabet;
-  guards = rows_where (length p.own) (has p.own) (λ e. guard_masks p.masks.items (guard_row p.guards.items e));
-  effects = rows_where (length p.own) (has p.alphabet) (λ e. effect_masks p.masks.items (effect_row p.effects.items e));
+  guards = rows_where (length p.own) (has p.own) (λ e. guard_masks p.masks.items (event_row p.rows.items p.numbers.items e).guards);
+  effects = rows_where (length p.own) (has p.alphabet) (λ e. effect_masks p.masks.items (event_row p.rows.items p.numbers.items e).effects);
 }
 
 -- the row of an event is there where the event is in the set, and its sets have room n
@@ -39,7 +39,7 @@ pub record IsLocal (P : Local) : Type 0 where
   pub guards : (e : ℕ) → e < length P.own → GuardsFit (length P.own) P.own e (slice_index_or P.guards e None)
   pub effects : (e : ℕ) → e < length P.own → EffectsFit (length P.own) P.alphabet e (slice_index_or P.effects e None)
 
--- every set has a place for each atom; there are numbers for each atom, and masks under them
+-- every set has a place for each atom; there is a number for each atom, a row under it, and masks at its places
 pub record FitsLocal (p : Inside) : Type 0 where
   pub tracked_in : length p.tracked_in ≡ length p.own
   pub tracked_ex : length p.tracked_ex ≡ length p.own
@@ -47,7 +47,7 @@ pub record FitsLocal (p : Inside) : Type 0 where
   pub alphabet : length p.alphabet ≡ length p.own
   pub masks : AreMasks p.masks.items
   pub rooms : atoms_of p.masks.items ≡ length p.own
-  pub as_many_guards : length p.guards.items ≡ length p.own
-  pub as_many_effects : length p.effects.items ≡ length p.own
-  pub guards : (e : ℕ) → e < length p.own → AreGuards p.masks.items (guard_row p.guards.items e)
-  pub effects : (e : ℕ) → e < length p.own → AreEffects p.masks.items (effect_row p.effects.items e)
+  pub as_many_numbers : length p.numbers.items ≡ length p.own
+  pub numbers : (e : ℕ) → e < length p.own → slice_index p.numbers.items e < length p.rows.items
+  pub guards : (e : ℕ) → e < length p.own → AreGuards p.masks.items (event_row p.rows.items p.numbers.items e).guards
+  pub effects : (e : ℕ) → e < length p.own → AreEffects p.masks.items (event_row p.rows.items p.numbers.items e).effects

@@ -1,18 +1,16 @@
--- The rules that a site keeps of one event, as masks; and the numbers under which the masks lie.
-use Rattle.std.specs.Prelude.{◌≡◌, ℕ, ◌<◌, Bool, true, false, ◌&&◌, List, length, map, Option, Some, None, slice_index_or, if◌then◌else◌}
+-- The rules that a site keeps of one event, as masks; and the places at which the masks lie.
+use Rattle.std.specs.Prelude.{◌≡◌, ℕ, ◌<◌, Bool, true, false, ◌&&◌, List, length, map, Option, Some, None, slice_index, slice_index_or, if◌then◌else◌}
 use Rattle.std.specs.List.{range_with_len}
-use Rattle.std.specs.Option.{option_copied}
 use Rattle.dcr_set.specs.EventSet.{Set, has, those}
 use Rattle.dcr_graph.specs.Rows.{row}
 use Rattle.dcr_graph.specs.Rules.{Rules}
 use Rattle.dcr_graph.specs.Projection.{in_alphabet, local_rules}
 use Rattle.dcr_graph.specs.declared.kind.Kind.{Kind}
 use Rattle.dcr_graph.specs.declared.kind.Kind.TheVariants.{Condition, Response, Milestone, Include, Exclude, Cancel}
-use Rattle.dcr_proj.specs.Masks.{or_nothing}
-use Rattle.dcr_proj.specs.declared.rows.Guards.{Guards}
-use Rattle.dcr_proj.specs.declared.rows.Effects.{Effects}
+use Rattle.dcr_proj.specs.Masks.{IsPlace}
 use Rattle.dcr_proj.specs.declared.rows.GuardRow.{GuardRow}
 use Rattle.dcr_proj.specs.declared.rows.EffectRow.{EffectRow}
+use Rattle.dcr_proj.specs.declared.rows.EventRow.{EventRow}
 
 -- what guards an owned event: its condition events and its milestone events
 pub record GuardMasks : Type 0 where
@@ -73,52 +71,30 @@ guard_rows G S = rows_where G.atoms (has S) (guards_of G)
 abbrev pub effect_rows : Rules → Set → List (Option EffectMasks)
 effect_rows G S = rows_where G.atoms (in_alphabet G S) (effects_of G S)
 
--- the masks that are lent of an event, where each set has room n
-abbrev pub lent_guards : ℕ → Guards → GuardMasks
-lent_guards n g = record {
-  condition = or_nothing n (option_copied g.condition);
-  milestone = or_nothing n (option_copied g.milestone);
-}
-
-abbrev pub lent_effects : ℕ → Effects → EffectMasks
-lent_effects n f = record {
-  response = or_nothing n (option_copied f.response);
-  include = or_nothing n (option_copied f.include);
-  exclude = or_nothing n (option_copied f.exclude);
-  cancel = or_nothing n (option_copied f.cancel);
-}
-
--- the numbers that stand for an atom, each of them 0 past the last
-abbrev pub guard_row : List GuardRow → ℕ → GuardRow
-guard_row rows e = slice_index_or rows e (record { condition = 0; milestone = 0 })
-
-abbrev pub effect_row : List EffectRow → ℕ → EffectRow
-effect_row rows e = slice_index_or rows e (record { response = 0; include = 0; exclude = 0; cancel = 0 })
-
--- the masks under these numbers
+-- the masks at these places
 abbrev pub guard_masks : List Set → GuardRow → GuardMasks
-guard_masks masks g = record { condition = row masks g.condition; milestone = row masks g.milestone }
+guard_masks masks g = record { condition = row masks g.condition.number; milestone = row masks g.milestone.number }
 
 abbrev pub effect_masks : List Set → EffectRow → EffectMasks
 effect_masks masks f = record {
-  response = row masks f.response;
-  include = row masks f.include;
-  exclude = row masks f.exclude;
-  cancel = row masks f.cancel;
+  response = row masks f.response.number;
+  include = row masks f.include.number;
+  exclude = row masks f.exclude.number;
+  cancel = row masks f.cancel.number;
 }
 
--- there are masks under these numbers
+-- there are masks at these places
 pub record AreGuards (masks : List Set) (g : GuardRow) : Type 0 where
-  pub condition : g.condition < length masks
-  pub milestone : g.milestone < length masks
+  pub condition : IsPlace masks g.condition
+  pub milestone : IsPlace masks g.milestone
 
 pub record AreEffects (masks : List Set) (f : EffectRow) : Type 0 where
-  pub response : f.response < length masks
-  pub include : f.include < length masks
-  pub exclude : f.exclude < length masks
-  pub cancel : f.cancel < length masks
+  pub response : IsPlace masks f.response
+  pub include : IsPlace masks f.include
+  pub exclude : IsPlace masks f.exclude
+  pub cancel : IsPlace masks f.cancel
 
--- the numbers of an atom are those of masks, and of its own where it passes
+-- the places of an atom are those of masks, and of its own where it passes
 pub record IsGuardRow (test : ℕ → Bool) (masks_of : ℕ → GuardMasks) (masks : List Set) (e : ℕ) (g : GuardRow) : Type 0 where
   pub within : AreGuards masks g
   pub told : test e ≡ true → guard_masks masks g ≡ masks_of e
@@ -126,3 +102,25 @@ pub record IsGuardRow (test : ℕ → Bool) (masks_of : ℕ → GuardMasks) (mas
 pub record IsEffectRow (test : ℕ → Bool) (masks_of : ℕ → EffectMasks) (masks : List Set) (e : ℕ) (f : EffectRow) : Type 0 where
   pub within : AreEffects masks f
   pub told : test e ≡ true → effect_masks masks f ≡ masks_of e
+
+-- the row of an atom: what guards it where it is owned, and what it does where it is heard
+pub record IsEventRow (owned heard : ℕ → Bool) (guards_at : ℕ → GuardMasks) (effects_at : ℕ → EffectMasks) (masks : List Set) (e : ℕ) (row : EventRow) : Type 0 where
+  pub guards : IsGuardRow owned guards_at masks e row.guards
+  pub effects : IsEffectRow heard effects_at masks e row.effects
+
+-- the row whose number stands for an atom
+abbrev pub event_row : List EventRow → List ℕ → ℕ → EventRow
+event_row rows numbers e = slice_index_or rows (slice_index numbers e) (record {
+  guards = record { condition = record { number = 0; alone = None }; milestone = record { number = 0; alone = None } };
+  effects = record {
+    response = record { number = 0; alone = None };
+    include = record { number = 0; alone = None };
+    exclude = record { number = 0; alone = None };
+    cancel = record { number = 0; alone = None };
+  };
+})
+
+-- the number of an atom is that of its row
+pub record HasRow (owned heard : ℕ → Bool) (guards_at : ℕ → GuardMasks) (effects_at : ℕ → EffectMasks) (masks : List Set) (rows : List EventRow) (numbers : List ℕ) (e : ℕ) : Type 0 where
+  pub number : slice_index numbers e < length rows
+  pub row : IsEventRow owned heard guards_at effects_at masks e (event_row rows numbers e)

@@ -4,10 +4,10 @@
 mod cover;
 mod masks;
 mod network;
+mod once;
 mod projection;
 mod rows;
 
 pub use cover::Cover;
 pub use network::{Network, participants_are_those_who_hear};
 pub use projection::{Projection, project};
-pub use rows::{Effects, Guards};

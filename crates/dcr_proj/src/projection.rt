@@ -4,8 +4,8 @@ ghost use Rattle.dcr_graph.specs.GraphValue.{rules_of};
 ghost use Rattle.dcr_proj.specs.Local.{projection_of};
 ghost use Rattle.dcr_proj.specs.Alphabet.{alphabet_within};
 
-use crate::masks::{Masks, lend_mask, mask_at};
-use crate::rows::{EffectRow, Effects, GuardRow, Guards};
+use crate::masks::{Masks, add_mask, first_open, first_within, mask_at, take_mask};
+use crate::rows::{EventRow, EventRows};
 use dcr_graph::{Graph, Kind, Marking, SiteMark};
 use dcr_set::{EventId, EventSet, NoMemory};
 use std::alloc::Global;
@@ -13,8 +13,8 @@ use std::marker::Model;
 
 /// What one site keeps of a graph: its own events, the events whose marks it tracks, its alphabet, and of
 /// the relations those alone that its decisions and its marks need. It is kept as masks: two for each
-/// owned event, four for each event of the alphabet. One that has no event, or one alone, as most have where
-/// there are many sites, is kept once. Contracts see it as `Local`.
+/// owned event, four for each event of the alphabet. Equal ones are kept once, but for a few; one that has no event, or one
+/// alone, as most have where there are many sites, is read from the event's row. Contracts see it as `Local`.
 #[derive(Drop)]
 pub struct Projection {
     own: EventSet,
@@ -22,10 +22,11 @@ pub struct Projection {
     tracked_ex: EventSet,
     tracked_re: EventSet,
     alphabet: EventSet,
-    // Each mask lies under its number. At the place of each atom stand the numbers of its masks.
+    // Each mask lies under its number. A row tells where the masks of an event lie; at the place of each atom stands the
+    // number of its row.
     masks: Vec<EventSet>,
-    guards: Vec<GuardRow>,
-    effects: Vec<EffectRow>,
+    rows: Vec<EventRow>,
+    numbers: Vec<u16>,
 }
 
 impl Model for Projection {
@@ -41,11 +42,12 @@ impl Model for Projection {
 }
 
 impl Projection {
-    ghost use Rattle.std.specs.Prelude.{◌≡◌, ◌<◌, ◌≤◌, List, Bool, true, false, length, IfOk, IfSome, Some, slice_index_or, None};
-    ghost use Rattle.dcr_set.specs.EventSet.{has};
+    ghost use Rattle.std.specs.Prelude.{◌≡◌, ◌<◌, ◌≤◌, List, Bool, true, false, length, IfOk, Some, slice_index_or, None};
+    ghost use Rattle.dcr_set.specs.EventSet.{has, first_in_both_without, first_in_three};
     ghost use Rattle.dcr_graph.specs.Rules.{Rules};
-    ghost use Rattle.dcr_graph.specs.Projection.{HasRoom, local_rules};
-    ghost use Rattle.dcr_proj.specs.Rows.{is_guard, lent_guards, lent_effects};
+    ghost use Rattle.dcr_graph.specs.Projection.{FitsAtoms, HasRoom, local_rules};
+    ghost use Rattle.dcr_proj.specs.MarksAfter.{marks_after};
+    ghost use Rattle.dcr_proj.specs.Rows.{is_guard, GuardMasks, EffectMasks};
     ghost use Rattle.dcr_proj.specs.Local.{cut_to};
     ghost use Rattle.dcr_proj.specs.ProjectionModel.{IsLocal};
 
@@ -88,36 +90,50 @@ impl Projection {
         &self.alphabet
     }
 
-    /// What guards an owned event.
-    pub fn guards(&self, e: EventId) -> Guards<'_>
-        requires { has self.now.own e ≡ true }
-        ensures row { slice_index_or self.now.guards e None ≡ Some (lent_guards (length self.now.own) result) }
-        ensures condition { IfSome result.condition (λ mask. length mask.now ≡ length self.now.own) }
-        ensures milestone { IfSome result.milestone (λ mask. length mask.now ≡ length self.now.own) }
+    /// The least condition event of an owned event that is included and not executed by these marks. None exactly where
+    /// there is none.
+    pub fn open_condition(&self, e: EventId, mark: &SiteMark) -> Option<EventId>
+        requires owned { has self.now.own e ≡ true }
+        requires rooms { FitsAtoms (length self.now.own) mark.now.executed mark.now.pending mark.now.included }
+        ensures { (row : GuardMasks) × (slice_index_or self.now.guards e None ≡ Some row)
+            × (result ≡ first_in_both_without row.condition mark.now.included mark.now.executed) }
     {
-        let row = self.guards[usize::from(e.0)];
-        Guards {
-            condition: lend_mask(&self.masks, row.condition),
-            milestone: lend_mask(&self.masks, row.milestone),
-        }
+        let row = &self.rows[usize::from(self.numbers[usize::from(e.0)])];
+        let place = &row.guards.condition;
+        first_open(&self.masks, place, &mark.included, &mark.executed)
     }
 
-    /// What an event of the alphabet does to the marks that are tracked.
-    pub fn effects(&self, e: EventId) -> Effects<'_>
-        requires { has self.now.alphabet e ≡ true }
-        ensures row { slice_index_or self.now.effects e None ≡ Some (lent_effects (length self.now.own) result) }
-        ensures response { IfSome result.response (λ mask. length mask.now ≡ length self.now.own) }
-        ensures include { IfSome result.include (λ mask. length mask.now ≡ length self.now.own) }
-        ensures exclude { IfSome result.exclude (λ mask. length mask.now ≡ length self.now.own) }
-        ensures cancel { IfSome result.cancel (λ mask. length mask.now ≡ length self.now.own) }
+    /// The least milestone event of an owned event that is included and pending by these marks. None exactly where there
+    /// is none.
+    pub fn pending_milestone(&self, e: EventId, mark: &SiteMark) -> Option<EventId>
+        requires owned { has self.now.own e ≡ true }
+        requires rooms { FitsAtoms (length self.now.own) mark.now.executed mark.now.pending mark.now.included }
+        ensures { (row : GuardMasks) × (slice_index_or self.now.guards e None ≡ Some row)
+            × (result ≡ first_in_three row.milestone mark.now.included mark.now.pending) }
     {
-        let row = self.effects[usize::from(e.0)];
-        Effects {
-            response: lend_mask(&self.masks, row.response),
-            include: lend_mask(&self.masks, row.include),
-            exclude: lend_mask(&self.masks, row.exclude),
-            cancel: lend_mask(&self.masks, row.cancel),
+        let row = &self.rows[usize::from(self.numbers[usize::from(e.0)])];
+        let place = &row.guards.milestone;
+        first_within(&self.masks, place, &mark.included, &mark.pending)
+    }
+
+    /// Does to the marks what an execution of an event of the alphabet does to those that are tracked.
+    pub fn apply(&self, e: EventId, mark: &mut SiteMark)
+        requires heard { has self.now.alphabet e ≡ true }
+        requires rooms { FitsAtoms (length self.now.own) mark.old.executed mark.old.pending mark.old.included }
+        ensures marks { (row : EffectMasks) × (slice_index_or self.now.effects e None ≡ Some row)
+            × (mark.new ≡ marks_after row (has self.now.tracked_ex e) mark.old e) }
+        ensures rooms { FitsAtoms (length self.now.own) mark.new.executed mark.new.pending mark.new.included }
+    {
+        let row = &self.rows[usize::from(self.numbers[usize::from(e.0)])];
+        let effects = &row.effects;
+        if self.tracked_ex.contains(e) {
+            mark.executed.insert(e);
         }
+        mark.pending.remove(e);
+        take_mask(&self.masks, &effects.cancel, &mut mark.pending);
+        add_mask(&self.masks, &effects.response, &mut mark.pending);
+        add_mask(&self.masks, &effects.include, &mut mark.included);
+        take_mask(&self.masks, &effects.exclude, &mut mark.included);
     }
 
     /// The atoms that are related by the kind, condition or milestone, to an owned event.
@@ -128,10 +144,10 @@ impl Projection {
             → result.now ≡ those G.atoms (λ a. (local_rules G S).related kind a e) }
         ensures room { length result.now ≡ length self.now.own }
     {
-        let row = self.guards[usize::from(e.0)];
+        let row = &self.rows[usize::from(self.numbers[usize::from(e.0)])].guards;
         match kind {
-            Kind::Condition => mask_at(&self.masks, row.condition),
-            Kind::Milestone => mask_at(&self.masks, row.milestone),
+            Kind::Condition => mask_at(&self.masks, row.condition.number),
+            Kind::Milestone => mask_at(&self.masks, row.milestone.number),
             _ => unreachable!(),
         }
     }
@@ -145,12 +161,12 @@ impl Projection {
             → result.now ≡ those G.atoms (λ b. (local_rules G S).related kind e b) }
         ensures room { length result.now ≡ length self.now.own }
     {
-        let row = self.effects[usize::from(e.0)];
+        let row = &self.rows[usize::from(self.numbers[usize::from(e.0)])].effects;
         match kind {
-            Kind::Response => mask_at(&self.masks, row.response),
-            Kind::Include => mask_at(&self.masks, row.include),
-            Kind::Exclude => mask_at(&self.masks, row.exclude),
-            Kind::Cancel => mask_at(&self.masks, row.cancel),
+            Kind::Response => mask_at(&self.masks, row.response.number),
+            Kind::Include => mask_at(&self.masks, row.include.number),
+            Kind::Exclude => mask_at(&self.masks, row.exclude.number),
+            Kind::Cancel => mask_at(&self.masks, row.cancel.number),
             _ => unreachable!(),
         }
     }
@@ -181,10 +197,10 @@ pub fn project(alloc: Global, graph: &Graph, own: &EventSet) -> Result<Projectio
     let tracked_in = own.joined(&conditions.joined(&milestones));
     let alphabet = alphabet_of(graph, &tracked_in, &tracked_re);
     let mut masks = Masks::new(alloc, graph.atoms())?;
-    let guards = GuardRow::of_each(alloc, graph, own, &mut masks)?;
-    let effects = EffectRow::of_each(
+    let EventRows { rows, numbers } = EventRows::of(
         alloc,
         graph,
+        own,
         &tracked_in,
         &tracked_re,
         &alphabet,
@@ -197,8 +213,8 @@ pub fn project(alloc: Global, graph: &Graph, own: &EventSet) -> Result<Projectio
         tracked_re,
         alphabet,
         masks: masks.into_sets(),
-        guards,
-        effects,
+        rows,
+        numbers,
     })
 }
 

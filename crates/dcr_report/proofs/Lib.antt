@@ -1,3 +1,4 @@
 pub mod Passing
 pub mod LegalLemmas
 pub mod ReportLemmas
+pub mod PieceLemmas

@@ -30,6 +30,26 @@ Passes-held a held left text e = record { moved = []; took = Appends-none a; joi
 pub Passes-from : {a b : Option (List ℕ)} {held grown left text : List ℕ} → grown ≡ held ++ text → Passes a b grown left [] → Passes a b held left text
 Passes-from {grown = grown} e p = record { moved = p.moved; took = p.took; joined = p.joined ∙ append-nil grown ∙ e }
 
+-- what is passed of what was left
+pub Passes-both : {a b c : Option (List ℕ)} {start text left whole : List ℕ} → Passes a b start text whole → Passes b c [] left text → Passes a c start left whole
+Passes-both {a} {b} {c} {left = left} first then = record {
+  moved = first.moved ++ then.moved;
+  took = Appends-both a b c first.moved then.moved first.took then.took;
+  joined = append_assoc first.moved then.moved left ∙ ap (λ l. first.moved ++ l) then.joined ∙ first.joined;
+}
+
+-- all that was held was handed on, and the text is to come
+pub Passes-emptied : {a b : Option (List ℕ)} {held left : List ℕ} (text : List ℕ) → left ≡ [] → Passes a b held left [] → Passes a b held text text
+Passes-emptied {held = held} {left = left} text none p = record {
+  moved = p.moved;
+  took = p.took;
+  joined = ap (λ l. l ++ text) (sym (append-nil p.moved) ∙ ap (λ l. p.moved ++ l) (sym none) ∙ p.joined ∙ append-nil held);
+}
+
+-- a text that the sink took
+pub Passes-whole : {a b : Option (List ℕ)} {text : List ℕ} (bytes : List ℕ) → bytes ≡ text → Appends a b bytes → Passes a b [] [] text
+Passes-whole bytes e took = record { moved = bytes; took = took; joined = append-nil bytes ∙ e }
+
 regroup : (first second left held text rest whole start : List ℕ) → first ++ (held ++ (text ++ rest)) ≡ start ++ whole → second ++ left ≡ held ++ text
     → (first ++ second) ++ (left ++ rest) ≡ start ++ whole
 regroup first second left held text rest whole start before here =

@@ -4,9 +4,10 @@
 
 mod digest;
 mod lines;
+mod pieces;
 mod report;
 mod write;
 
 pub use digest::case_digest;
-pub use report::{ReportStop, write_report};
+pub use report::{ReportStop, write_report, write_report_by_threads};
 pub use write::{write_end, write_site, write_verdict};

@@ -139,9 +139,24 @@ fn pass_entry<O: Sink>(
     ensures stopped { IfErr result (λ stop. StopsWithin stop (O.takes sink.old) (O.takes sink.new) held.old.items
         (line (entry_text cover.now.names graph.now.names place entry.now))) }
 {
-    write_entry(place, entry, graph, cover, held)?;
-    end_line(held)?;
+    put_entry(place, entry, graph, cover, held)?;
     pass_full(held, sink)
+}
+
+/// Adds the line of an entry.
+pub(crate) fn put_entry(
+    place: u32,
+    entry: &Entry,
+    graph: &Graph,
+    cover: &Cover,
+    held: &mut Vec<u8>,
+) -> Result<(), NoMemory>
+    requires { FitsEntry (length cover.now.names) (length graph.now.names) entry.now }
+    ensures { OnOk result (held.new.items
+        ≡ held.old.items ++ line (entry_text cover.now.names graph.now.names place entry.now)) }
+{
+    write_entry(place, entry, graph, cover, held)?;
+    end_line(held)
 }
 
 /// A line for each site.
@@ -227,9 +242,19 @@ fn pass_full<O: Sink>(held: &mut Vec<u8>, sink: &mut O) -> Result<(), ReportStop
     ensures stopped { IfErr result (λ stop. StopsWithin stop (O.takes sink.old) (O.takes sink.new) held.old.items []) }
 {
     if held.len() > FULL {
-        write_all(sink, held)?;
-        held.clear();
+        pass_held(held, sink)?;
     }
+    Ok(())
+}
+
+/// Hands on what is held.
+pub(crate) fn pass_held<O: Sink>(held: &mut Vec<u8>, sink: &mut O) -> Result<(), ReportStop>
+    ensures passed { OnOk result (Passed (O.takes sink.old) (O.takes sink.new) held.old.items held.new.items []) }
+    ensures emptied { OnOk result (held.new.items ≡ []) }
+    ensures stopped { IfErr result (λ stop. StopsWithin stop (O.takes sink.old) (O.takes sink.new) held.old.items []) }
+{
+    write_all(sink, held)?;
+    held.clear();
     Ok(())
 }
 

@@ -1,26 +1,30 @@
-ghost use Rattle.std.specs.Prelude.{◌≡◌, ◌≢◌, ℕ, ◌<◌, ◌≤◌, length, take, Some, OnOk, IfErr, OnErr};
+ghost use Rattle.std.specs.Prelude.{◌≡◌, ◌≢◌, ℕ, ◌<◌, ◌≤◌, ⊤, length, take, Some, OnOk, IfErr, OnErr};
 ghost use Rattle.std.specs.List.{All};
+ghost use Rattle.std.specs.Thread.{IsSync};
 ghost use Rattle.dcr_base.specs.Side.{Adds, Stopped};
 ghost use Rattle.dcr_graph.specs.Cause.{waits};
 ghost use Rattle.dcr_graph.specs.GraphValue.{rules_of};
 ghost use Rattle.dcr_graph.specs.Projection.{HasRoom};
 ghost use Rattle.dcr_nest.specs.FlatRelation.{IsFlattening};
 ghost use Rattle.dcr_journal.specs.Run.{IsLegal, after, marks_at};
-ghost use Rattle.dcr_report.specs.Report.{report_text, told_text};
+ghost use Rattle.dcr_line.specs.Fits.{FitsEntry};
+ghost use Rattle.dcr_report.specs.Report.{lines_text, entry_lines, report_text, told_text};
 ghost use Rattle.dcr_report.specs.FitsClosed.{FitsClosed};
 ghost use Rattle.dcr_report.specs.Stop.{message_of};
 ghost use Rattle.dcr_report.specs.Passed.{CountsStop, Passed, StopsWithin};
 
 use crate::lines::{pass_entries, pass_head, pass_sites, put_end};
+use crate::pieces::pass_by_threads;
 use dcr_base::{Sink, write_all};
 use dcr_graph::Graph;
-use dcr_journal::Closed;
+use dcr_journal::{Closed, Journal};
 use dcr_nest::Nested;
 use dcr_proj::Cover;
 use dcr_set::NoMemory;
 use std::alloc::Global;
 use std::error::Error;
 use std::fmt;
+use std::thread::Threads;
 
 /// Why a report was not written to its end.
 #[derive(Clone, Copy, Debug, PartialEq, Eq)]
@@ -92,11 +96,13 @@ pub fn write_report<O: Sink>(
     ensures not_all { OnErr result (Stopped (report_text nested.now cover.now closed.now.opening closed.now.history.entries) (O.takes sink.old) (O.takes sink.new)) }
     ensures counts { IfErr result (λ stop. CountsStop stop (O.takes sink.old).faults (O.takes sink.new).faults) }
 {
-    write_told(alloc, nested, graph, cover, closed, sink)
+    write_told(alloc, &InTurn, nested, graph, cover, closed, sink)
 }
 
-// The report of what the run tells: its lines want no more than numbers of sites and atoms that there are.
-pub(crate) fn write_told<O: Sink>(
+/// Writes the report of a closed run as `write_report` does, by the same clauses. Where it is long, the lines of its entries
+/// are made by as many threads as there are processors, 16 at most, and 16 MiB of them are held at most.
+pub fn write_report_by_threads<O: Sink, R: Threads + Sync>(
+    rt: &R,
     alloc: Global,
     nested: &Nested,
     graph: &Graph,
@@ -104,6 +110,94 @@ pub(crate) fn write_told<O: Sink>(
     closed: &Closed,
     sink: &mut O,
 ) -> Result<(), ReportStop>
+    requires flattening { IsFlattening nested.now graph.now }
+    requires rooms { All (λ set. length set ≡ length graph.now.names) cover.now.owned }
+    requires opening { HasRoom (length graph.now.names) closed.now.opening }
+    requires legal { IsLegal (rules_of graph.now) cover.now.owned
+        closed.now.opening closed.now.history.entries }
+    requires marks { closed.now.marks ≡ marks_at (rules_of graph.now) cover.now.owned
+        (after (rules_of graph.now) closed.now.opening closed.now.history.entries) }
+    requires verdict { closed.now.waits ≡ waits (length graph.now.names)
+        (after (rules_of graph.now) closed.now.opening closed.now.history.entries) }
+    ensures all { OnOk result (Adds (report_text nested.now cover.now closed.now.opening closed.now.history.entries) (O.takes sink.old) (O.takes sink.new)) }
+    ensures not_all { OnErr result (Stopped (report_text nested.now cover.now closed.now.opening closed.now.history.entries) (O.takes sink.old) (O.takes sink.new)) }
+    ensures counts { IfErr result (λ stop. CountsStop stop (O.takes sink.old).faults (O.takes sink.new).faults) }
+{
+    let threads = ByThreads { rt, alloc };
+    write_told(alloc, &threads, nested, graph, cover, closed, sink)
+}
+
+/// How the lines of the entries are passed.
+trait EntryWay {
+    // Holds of a way that can be gone.
+    ghost ready: { Self → Type 0 } = { λ _. ⊤ };
+
+    fn pass_entries<O: Sink>(
+        &self,
+        history: &Journal,
+        graph: &Graph,
+        cover: &Cover,
+        held: &mut Vec<u8>,
+        sink: &mut O,
+    ) -> Result<(), ReportStop>
+        requires ready { ready self.now }
+        requires fits { All (FitsEntry (length cover.now.names) (length graph.now.names)) history.now.entries }
+        ensures passed { OnOk result (Passed (O.takes sink.old) (O.takes sink.new) held.old.items held.new.items
+            (lines_text (entry_lines cover.now.names graph.now.names 0 history.now.entries))) }
+        ensures stopped { IfErr result (λ stop. StopsWithin stop (O.takes sink.old) (O.takes sink.new) held.old.items
+            (lines_text (entry_lines cover.now.names graph.now.names 0 history.now.entries))) };
+}
+
+// One line after the other.
+#[derive(Drop)]
+struct InTurn;
+
+impl EntryWay for InTurn {
+    fn pass_entries<O: Sink>(
+        &self,
+        history: &Journal,
+        graph: &Graph,
+        cover: &Cover,
+        held: &mut Vec<u8>,
+        sink: &mut O,
+    ) -> Result<(), ReportStop> {
+        pass_entries(history, graph, cover, held, sink)
+    }
+}
+
+// By threads where that pays.
+#[derive(Drop)]
+struct ByThreads<'a, R> {
+    rt: &'a R,
+    alloc: Global,
+}
+
+impl<R: Threads + Sync> EntryWay for ByThreads<'_, R> {
+    ghost ready = { λ _. IsSync R.row };
+
+    fn pass_entries<O: Sink>(
+        &self,
+        history: &Journal,
+        graph: &Graph,
+        cover: &Cover,
+        held: &mut Vec<u8>,
+        sink: &mut O,
+    ) -> Result<(), ReportStop> {
+        pass_by_threads(self.rt, self.alloc, history, graph, cover, held, sink)
+    }
+}
+
+// The report of what the run tells: its lines want no more than numbers of sites and atoms that there are.
+fn write_told<W: EntryWay, O: Sink>(
+    alloc: Global,
+    way: &W,
+    nested: &Nested,
+    graph: &Graph,
+    cover: &Cover,
+    closed: &Closed,
+    sink: &mut O,
+) -> Result<(), ReportStop>
+    requires ready { W.ready way.now }
     requires rooms { All (λ set. length set ≡ length graph.now.names) cover.now.owned }
     requires fits { FitsClosed (length cover.now.owned) (length graph.now.names) closed.now }
     ensures all { OnOk result (Adds (told_text nested.now cover.now graph.now.names closed.now) (O.takes sink.old) (O.takes sink.new)) }
@@ -111,14 +205,15 @@ pub(crate) fn write_told<O: Sink>(
     ensures counts { IfErr result (λ stop. CountsStop stop (O.takes sink.old).faults (O.takes sink.new).faults) }
 {
     let mut held = Vec::new(alloc);
-    pass_report(alloc, nested, graph, cover, closed, &mut held, sink)?;
+    pass_report(alloc, way, nested, graph, cover, closed, &mut held, sink)?;
     write_all(sink, &held)?;
     Ok(())
 }
 
 // All of the report; the end of it is still held.
-fn pass_report<O: Sink>(
+fn pass_report<W: EntryWay, O: Sink>(
     alloc: Global,
+    way: &W,
     nested: &Nested,
     graph: &Graph,
     cover: &Cover,
@@ -126,6 +221,7 @@ fn pass_report<O: Sink>(
     held: &mut Vec<u8>,
     sink: &mut O,
 ) -> Result<(), ReportStop>
+    requires ready { W.ready way.now }
     requires rooms { All (λ set. length set ≡ length graph.now.names) cover.now.owned }
     requires fits { FitsClosed (length cover.now.owned) (length graph.now.names) closed.now }
     ensures passed { OnOk result (Passed (O.takes sink.old) (O.takes sink.new) held.old.items held.new.items
@@ -135,7 +231,7 @@ fn pass_report<O: Sink>(
 {
     let sites = cover.site_names();
     pass_head(alloc, nested, graph, cover, closed, held, sink)?;
-    pass_entries(&closed.history, graph, cover, held, sink)?;
+    way.pass_entries(&closed.history, graph, cover, held, sink)?;
     pass_sites(&closed.marks, graph, sites, held, sink)?;
     put_end(closed.waits, closed.history.len(), graph, held)?;
     Ok(())

@@ -191,6 +191,12 @@ impl EventSet {
         }
     }
 
+    /// A number that is mixed from all events, by which equal sets are looked for: equal sets have equal ones, and others
+    /// rarely. It says nothing in contracts.
+    pub fn mixed(&self) -> u64 {
+        words::mix(&self.words)
+    }
+
     /// How many words a set with this room takes in a row of words.
     pub fn words_needed(room: u16) -> usize
         ensures { result ≡ needed room }

@@ -108,3 +108,12 @@ pub fn test_bit(words: &[u64; 16], e: u16) -> bool
     let word = words[usize::from(e / 64)];
     (word >> u32::from(e % 64)) & 1 == 1
 }
+
+/// A number that is mixed from all words.
+pub fn mix(words: &[u64; 16]) -> u64 {
+    let mut mixed = 0u64;
+    for word in words {
+        mixed = (mixed.rotate_left(23) ^ *word).wrapping_mul(0x9E37_79B9_7F4A_7C15);
+    }
+    mixed
+}

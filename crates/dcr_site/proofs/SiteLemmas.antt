@@ -1,10 +1,10 @@
 -- What the masks of a site decide and do, where the site stands at a marking.
-use Rattle.std.proofs.Common.{◌≡◌, ℕ, ◌<◌, Bool, true, false, not, ◌&&◌, ◌||◌, eqb, ltb, cond, length, get_or, Option, Some, None, refl, sym, ap, subst, ◌∙◌, arith}
+use Rattle.std.proofs.Common.{◌≡◌, ℕ, ◌<◌, Bool, true, false, not, ◌&&◌, ◌||◌, eqb, cond, length, get_or, Option, Some, None, refl, sym, ap, subst, ◌∙◌, arith}
 use Rattle.std.proofs.lemmas.Bool.{eqb-true, or_left}
 use Rattle.dcr_set.specs.Least.{least}
-use Rattle.dcr_set.specs.EventSet.{Set, has, those, no_event, with_event, without_event, union, difference, first_in_both_without, first_in_three}
-use Rattle.dcr_set.proofs.LeastLemmas.{least-ext, least-none_from}
-use Rattle.dcr_set.proofs.SetLemmas.{has-those, has_those_both, length-those, those-ext, those-has}
+use Rattle.dcr_set.specs.EventSet.{Set, has, those, with_event, without_event, union, difference, first_in_both_without, first_in_three}
+use Rattle.dcr_set.proofs.LeastLemmas.{least-ext}
+use Rattle.dcr_set.proofs.SetLemmas.{has-those, length-those, those-ext, those-has}
 use Rattle.dcr_set.proofs.ToldLemmas.{union-those, union_set-those, difference-those, intersection_set-those}
 use Rattle.dcr_graph.specs.Rules.{Rules}
 use Rattle.dcr_graph.specs.Cause.{cause, is_open_condition, is_pending_milestone}
@@ -15,44 +15,17 @@ use Rattle.dcr_graph.specs.declared.kind.Cause.{Cause}
 use Rattle.dcr_graph.specs.declared.kind.Cause.TheVariants.{Excluded}
 use Rattle.dcr_graph.specs.declared.marking.Marking.{Marking}
 use Rattle.dcr_graph.specs.declared.marking.SiteMark.{SiteMark}
-use Rattle.dcr_graph.proofs.BoolLemmas.{and_true, and_false, or_false, left_out}
+use Rattle.dcr_graph.proofs.BoolLemmas.{and_true, left_out}
 use Rattle.dcr_graph.proofs.LocalLaws.{local_cause, local_step_is, outside_step, same_marks}
 use Rattle.dcr_graph.proofs.CauseLemmas.{first_block}
-use Rattle.dcr_proj.specs.Masks.{or_nothing}
 use Rattle.dcr_proj.specs.Rows.{GuardMasks, EffectMasks, guards_of, effects_of}
 use Rattle.dcr_proj.specs.Local.{Local, projection_of, cut_to}
 use Rattle.dcr_site.specs.Decision.{by_cause, decision, owned_waits}
 use Rattle.dcr_site.specs.Seen.{Seen, StandsAt}
 use Rattle.dcr_site.specs.declared.site.Decision.TheVariants.{NotHere, Blocked}
-use Rattle.dcr_site.specs.MarksAfter.{marks_after}
+use Rattle.dcr_proj.specs.MarksAfter.{marks_after}
 use Rattle.dcr_proj.proofs.RowLemmas.{row_at}
 use Rattle.dcr_proj.proofs.ProjectionLemmas.{below_room}
-
--- ---- masks that have no event
-
-nothing : (n k : ℕ) → has (no_event n) k ≡ false
-nothing n k = has_those_both n (λ _. false) k ∙ and_false (ltb k n)
-
--- they add nothing, take out nothing, and have no least event
-pub nothing_added : (s : Set) (n : ℕ) (mask : Option Set) → mask ≡ None → s ≡ union s (or_nothing n mask)
-nothing_added s n mask none =
-    sym (those-has s) ∙ those-ext (length s) _ _ (λ k below. sym (ap (λ b. has s k || b) (nothing n k) ∙ or_false (has s k)))
-    ∙ ap (λ m. union s (or_nothing n m)) (sym none)
-
-pub nothing_taken : (s : Set) (n : ℕ) (mask : Option Set) → mask ≡ None → s ≡ difference s (or_nothing n mask)
-nothing_taken s n mask none =
-    sym (those-has s) ∙ those-ext (length s) _ _ (λ k below. sym (ap (λ b. has s k && not b) (nothing n k) ∙ and_true (has s k)))
-    ∙ ap (λ m. difference s (or_nothing n m)) (sym none)
-
-pub nothing_open : (n : ℕ) (mask : Option Set) (inside outside : Set) → mask ≡ None → None ≡ first_in_both_without (or_nothing n mask) inside outside
-nothing_open n mask inside outside none =
-    sym (least-none_from (length (no_event n)) _ (λ k below. ap (λ b. b && (has inside k && not (has outside k))) (nothing n k)))
-    ∙ ap (λ m. first_in_both_without (or_nothing n m) inside outside) (sym none)
-
-pub nothing_pending : (n : ℕ) (mask : Option Set) (second third : Set) → mask ≡ None → None ≡ first_in_three (or_nothing n mask) second third
-nothing_pending n mask second third none =
-    sym (least-none_from (length (no_event n)) _ (λ k below. ap (λ b. b && (has second k && has third k)) (nothing n k)))
-    ∙ ap (λ m. first_in_three (or_nothing n m) second third) (sym none)
 
 -- ---- deciding
 
@@ -149,11 +122,10 @@ module _ (G : Rules) (S : Set) (M : Marking) (site : Seen) (at : StandsAt G S M 
       sym (ap (λ t. by_cause (cond t (first_block (first_in_both_without (guards_of G e).condition (project G S M).included (project G S M).executed) (first_in_three (guards_of G e).milestone (project G S M).included (project G S M).pending)) (Some Excluded)))
       (ap (λ m. has m.included e) (sym at.mark) ∙ out)) ∙ decided G S M e own atom
 
-  pub stepped_by_masks : (row : EffectMasks) (mark : SiteMark) → length site.projection.alphabet ≡ length site.projection.own
-      → has site.projection.alphabet e ≡ true → get_or site.projection.effects e None ≡ Some row
+  pub stepped_by_masks : (row : EffectMasks) (mark : SiteMark) → has site.projection.alphabet e ≡ true → get_or site.projection.effects e None ≡ Some row
       → mark ≡ marks_after row (has site.projection.tracked_ex e) site.mark e
       → StandsAt G S (step G M e) (record { projection = site.projection; mark = mark })
-  stepped_by_masks row mark room heard there is =
+  stepped_by_masks row mark heard there is =
       let atoms : length site.projection.alphabet ≡ G.atoms = ap (λ P. length P.alphabet) at.projection ∙ length-those G.atoms (in_alphabet G S) in
       let atom : e < G.atoms = (let below = below_room site.projection.alphabet e heard in omega arith) in
       let hears : in_alphabet G S e ≡ true = sym (has-those G.atoms (in_alphabet G S) e atom) ∙ ap (λ P. has P.alphabet e) (sym at.projection) ∙ heard in

@@ -1,5 +1,4 @@
 pub mod Seen
 pub mod SiteModel
 pub mod Decision
-pub mod MarksAfter
 pub mod Together

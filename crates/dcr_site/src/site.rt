@@ -1,12 +1,5 @@
-ghost use Rattle.std.specs.Prelude.{◌≡◌, ◌<◌, IsTrue, IfSome, length};
-ghost use Rattle.std.specs.Option.{option_copied};
-ghost use Rattle.dcr_set.specs.EventSet.{union, difference, first_in_both_without, first_in_three};
-ghost use Rattle.dcr_proj.specs.Masks.{or_nothing};
-ghost use Rattle.dcr_proj.specs.Rows.{lent_effects};
-ghost use Rattle.dcr_site.specs.MarksAfter.{marks_after};
-
 use dcr_graph::{Cause, Marking, SiteMark};
-use dcr_proj::{Effects, Projection};
+use dcr_proj::Projection;
 use dcr_set::{EventId, EventSet};
 use std::marker::Model;
 
@@ -28,11 +21,12 @@ pub enum Decision {
 pub struct Site {
     projection: Projection,
     mark: SiteMark,
-    // What was found since an execution was applied: the first event that waits, where that is known, and what can be
-    // executed.
+    // What was found since an execution was applied: the first event that waits, and what can be executed. Each tells
+    // beside it whether it is known, so that to forget it is one store.
     knows_waits: bool,
     waits: Option<EventId>,
-    can: Option<EventSet>,
+    knows_can: bool,
+    can: EventSet,
 }
 
 impl Model for Site {
@@ -45,7 +39,6 @@ impl Model for Site {
     ghost view = { seen_of };
 
     ghost use Rattle.std.specs.Prelude.{◌≡◌, List, Bool, IsTrue, length};
-    ghost use Rattle.std.specs.Option.{ForSome};
     ghost use Rattle.dcr_graph.specs.Rules.{Rules};
     ghost use Rattle.dcr_graph.specs.Cause.{enabled_in};
     ghost use Rattle.dcr_graph.specs.declared.marking.Marking.{Marking as Marks};
@@ -54,8 +47,8 @@ impl Model for Site {
 
     ghost invariant = { λ s. HasMarks s
         × (IsTrue s.knows_waits → (G : Rules) (S : List Bool) (M : Marks) → StandsAt G S M (seen_of s) → s.waits ≡ owned_waits G S M)
-        × ForSome s.can (λ found. (length found ≡ length s.projection.own)
-        × ((G : Rules) (S : List Bool) (M : Marks) → StandsAt G S M (seen_of s) → found ≡ enabled_in G S M)) };
+        × (length s.can ≡ length s.projection.own)
+        × (IsTrue s.knows_can → (G : Rules) (S : List Bool) (M : Marks) → StandsAt G S M (seen_of s) → s.can ≡ enabled_in G S M) };
 }
 
 impl Site {
@@ -80,12 +73,14 @@ impl Site {
         ensures stands { (G : Rules) (S : List Bool) → projection ≡ projection_of G S → StandsAt G S start.now result }
     {
         let mark = projection.start(start);
+        let can = EventSet::new(projection.own().room());
         Site {
             projection,
             mark,
             knows_waits: false,
             waits: None,
-            can: None,
+            knows_can: false,
+            can,
         }
     }
 
@@ -100,11 +95,10 @@ impl Site {
         if !self.mark.included.contains(e) {
             return Decision::Blocked(Cause::Excluded);
         }
-        let guards = self.projection.guards(e);
-        if let Some(c) = open_condition(guards.condition, &self.mark) {
+        if let Some(c) = self.projection.open_condition(e, &self.mark) {
             return Decision::Blocked(Cause::Condition(c));
         }
-        if let Some(m) = pending_milestone(guards.milestone, &self.mark) {
+        if let Some(m) = self.projection.pending_milestone(e, &self.mark) {
             return Decision::Blocked(Cause::Milestone(m));
         }
         Decision::Enabled
@@ -123,10 +117,9 @@ impl Site {
         ensures projection { self.new.projection ≡ self.old.projection }
         ensures stepped { (G : Rules) (S : List Bool) (M : Marks) → StandsAt G S M self.old → StandsAt G S (step G M e) self.new }
     {
-        let tracked = self.projection.tracked_ex().contains(e);
-        apply_masks(&mut self.mark, &self.projection.effects(e), tracked, e);
+        self.projection.apply(e, &mut self.mark);
         self.knows_waits = false;
-        self.can = None;
+        self.knows_can = false;
     }
 
     /// The marks.
@@ -156,12 +149,11 @@ impl Site {
         ensures enabled { (G : Rules) (S : List Bool) (M : Marks) → StandsAt G S M self.old → result ≡ enabled_in G S M }
         ensures room { length result ≡ length self.old.projection.own }
     {
-        if let Some(can) = &self.can {
-            return can.copy();
+        if !self.knows_can {
+            self.can = self.can();
+            self.knows_can = true;
         }
-        let can = self.can();
-        self.can = Some(can.copy());
-        can
+        self.can.copy()
     }
 
     /// How many atoms the projection is over.
@@ -191,6 +183,7 @@ impl Site {
     }
 
     /// As `first_waiting`. What was found is kept until an execution is applied.
+    #[inline(never)]
     pub fn waits_again(&mut self) -> Option<EventId>
         ensures same { self.new ≡ self.old }
         ensures waits { (G : Rules) (S : List Bool) (M : Marks) → StandsAt G S M self.old → result ≡ owned_waits G S M }
@@ -200,70 +193,5 @@ impl Site {
             self.knows_waits = true;
         }
         self.waits
-    }
-}
-
-// The least of these condition events that is included and not executed.
-fn open_condition(conditions: Option<&EventSet>, mark: &SiteMark) -> Option<EventId>
-    requires included { IfSome conditions (λ mask. length mask.now ≡ length mark.now.included) }
-    requires executed { IfSome conditions (λ mask. length mask.now ≡ length mark.now.executed) }
-    ensures { result ≡ first_in_both_without (or_nothing (length mark.now.included) (option_copied conditions.entry)) mark.now.included mark.now.executed }
-{
-    let conditions = conditions?;
-    conditions.first_common_without(&mark.included, &mark.executed)
-}
-
-// The least of these milestone events that is included and pending.
-fn pending_milestone(milestones: Option<&EventSet>, mark: &SiteMark) -> Option<EventId>
-    requires included { IfSome milestones (λ mask. length mask.now ≡ length mark.now.included) }
-    requires pending { IfSome milestones (λ mask. length mask.now ≡ length mark.now.pending) }
-    ensures { result ≡ first_in_three (or_nothing (length mark.now.included) (option_copied milestones.entry)) mark.now.included mark.now.pending }
-{
-    let milestones = milestones?;
-    milestones.first_common_three(&mark.included, &mark.pending)
-}
-
-// Does to the marks what the masks of the event say. The masks that have no event are not there, and cost nothing.
-fn apply_masks(mark: &mut SiteMark, effects: &Effects<'_>, tracked: bool, e: EventId)
-    requires executed { IsTrue tracked → e < length mark.old.executed }
-    requires marks { length mark.old.included ≡ length mark.old.pending }
-    requires cancel { IfSome effects.now.cancel (λ mask. length mask.now ≡ length mark.old.pending) }
-    requires response { IfSome effects.now.response (λ mask. length mask.now ≡ length mark.old.pending) }
-    requires include { IfSome effects.now.include (λ mask. length mask.now ≡ length mark.old.included) }
-    requires exclude { IfSome effects.now.exclude (λ mask. length mask.now ≡ length mark.old.included) }
-    ensures marks { mark.new ≡ marks_after (lent_effects (length mark.old.pending) effects.now) tracked mark.old e }
-    ensures executed { length mark.new.executed ≡ length mark.old.executed }
-    ensures pending { length mark.new.pending ≡ length mark.old.pending }
-    ensures included { length mark.new.included ≡ length mark.old.included }
-{
-    if tracked {
-        mark.executed.insert(e);
-    }
-    mark.pending.remove(e);
-    take_out(&mut mark.pending, effects.cancel);
-    put_in(&mut mark.pending, effects.response);
-    put_in(&mut mark.included, effects.include);
-    take_out(&mut mark.included, effects.exclude);
-}
-
-// Adds what a mask has.
-fn put_in(set: &mut EventSet, mask: Option<&EventSet>)
-    requires { IfSome mask (λ mask. length mask.now ≡ length set.old) }
-    ensures joined { set.new ≡ union set.old (or_nothing (length set.old) (option_copied mask.entry)) }
-    ensures room { length set.new ≡ length set.old }
-{
-    if let Some(mask) = mask {
-        set.union_with(mask);
-    }
-}
-
-// Takes out what a mask has.
-fn take_out(set: &mut EventSet, mask: Option<&EventSet>)
-    requires { IfSome mask (λ mask. length mask.now ≡ length set.old) }
-    ensures left { set.new ≡ difference set.old (or_nothing (length set.old) (option_copied mask.entry)) }
-    ensures room { length set.new ≡ length set.old }
-{
-    if let Some(mask) = mask {
-        set.minus_with(mask);
     }
 }

@@ -1,66 +1,57 @@
-use Rattle.std.proofs.Common.{◌≡◌, ◌≢◌, List, [], ◌∷◌, map, Option, Some, IfSome, ap, subst}
+use Rattle.std.proofs.Common.{◌≡◌, ◌≢◌, List, [], ◌∷◌, map, Option, IfSome, ap, subst}
 use Rattle.std.specs.List.{All}
 use Rattle.std.proofs.lemmas.List.{nil_from_length}
 use Rattle.std.proofs.lemmas.List.Elements.{All-head, All-tail}
-use Rattle.dcr_base.specs.Side.{side}
 use Rattle.dcr_base.specs.declared.status.Status.{Status}
-use Rattle.dcr_base.specs.declared.status.Status.TheVariants.{Done, NoMemory}
+use Rattle.dcr_base.specs.declared.status.Status.TheVariants.{Done}
 use Rattle.dcr_journal.specs.declared.closed.Closed.{Closed}
 use Rattle.dcr_json.specs.Built.{IsCase, case_of}
 use Rattle.dcr_json.specs.declared.case.Case.{Case}
 use Rattle.dcr_report.specs.Report.{report_text}
-use Rattle.dcr_app.specs.Adapted.{RanStage, stages_from}
+use Rattle.dcr_app.specs.Adapted.{RanAlone}
 use Rattle.dcr_app.specs.Outside.{Wrote}
-use Rattle.dcr_app.proofs.AdaptLemmas.{carries_here, ends_as_told, ends_here, goes_on_here, runs_none, starves_here, stops_here}
+use Rattle.dcr_app.proofs.AdaptLemmas.{carries_here, ends_here, goes_on_here, runs_none, starves_here, stops_here}
 use Rattle.dcr_app.proofs.adapt.+run_stages.Goals.{in-Done, in_default-matches}
 use Rattle.dcr_app.proofs.adapt.+run_stages.Goals as goal
 
 pub returns-in_default-clause-runs : goal.returns-in_default-clause-runs
-returns-in_default-clause-runs g n c =
-    let had = side (g.O.Sink.takes c.args.output.now).bytes (g.O.Sink.takes c.args.output.now).faults in
-    ends_as_told (stages_from (case_of c.args.case.now) c.args.opening.now (map case_of c.args.rest.now)) c.args.before had had NoMemory c.args.before c.ended.result c.ended.ensures
-    (runs_none (case_of c.args.case.now) c.args.opening.now (map case_of c.args.rest.now) c.args.before had)
+returns-in_default-clause-runs g n c = runs_none (case_of c.args.case.now) c.args.opening.now (map case_of c.args.rest.now) c.args.before (g.O.Sink.takes c.args.output.now)
 
 pub returns-then-not-matches-clause-runs : goal.returns-then-not-matches-clause-runs
 returns-then-not-matches-clause-runs g n c =
-    let rest = map case_of c.args.rest.now in let closed = c.in-Some.closed in let case = c.args.case.now in
-    let ran = subst (λ (o : Option Closed). IfSome o (RanStage case.graph case.cover.owned c.args.opening.now case.sessions)) c.in-Some.is c.run_stage-ran.ensures.ran in
-    let had = side (g.O.Sink.takes c.args.output.now).bytes (g.O.Sink.takes c.args.output.now).faults in let took = side (g.O.Sink.takes c.report-status.new.output).bytes (g.O.Sink.takes c.report-status.new.output).faults in let status = c.report-status.result in
-    let other : status ≢ Done = λ done. elim c.match-matches.branch [
+    let closed = c.in-Some.closed in let case = c.args.case.now in
+    let ran = subst (λ (o : Option Closed). IfSome o (RanAlone case.graph case.cover.owned c.args.opening.now case.sessions)) c.in-Some.is c.run_alone-ran.ensures.ran in
+    let other : c.report-status.result ≢ Done = λ done. elim c.match-matches.branch [
       | in-Done w ↦ absurd (let yes = c.if-not-matches.true in let is = w.matches-is in cc)
       | in_default-matches w ↦ absurd (w.in_default-matches.not-Done done)
     ] in
-    ends_as_told (stages_from (case_of case) c.args.opening.now rest) c.args.before had took status (Some closed) c.ended-then-not-matches.result c.ended-then-not-matches.ensures
-    (stops_here case c.args.opening.now closed c.requires.case ran c.args.before rest had took status c.report-status.ensures other)
+    stops_here case c.args.opening.now closed c.requires.case ran c.args.before (map case_of c.args.rest.now) (g.O.Sink.takes c.args.output.now) (g.O.Sink.takes c.report-status.new.output) c.report-status.result
+    c.report-status.ensures other
 
 pub returns-in_default-split_first-clause-runs : goal.returns-in_default-split_first-clause-runs
 returns-in_default-split_first-clause-runs g n c =
-    let rest = map case_of c.args.rest.now in let closed = c.in-Some.closed in let case = c.args.case.now in
-    let ran = subst (λ (o : Option Closed). IfSome o (RanStage case.graph case.cover.owned c.args.opening.now case.sessions)) c.in-Some.is c.run_stage-ran.ensures.ran in
-    let had = side (g.O.Sink.takes c.args.output.now).bytes (g.O.Sink.takes c.args.output.now).faults in let took = side (g.O.Sink.takes c.report-status.new.output).bytes (g.O.Sink.takes c.report-status.new.output).faults in
+    let closed = c.in-Some.closed in let case = c.args.case.now in let had = g.O.Sink.takes c.args.output.now in let took = g.O.Sink.takes c.report-status.new.output in
+    let ran = subst (λ (o : Option Closed). IfSome o (RanAlone case.graph case.cover.owned c.args.opening.now case.sessions)) c.in-Some.is c.run_alone-ran.ensures.ran in
     let done : c.report-status.result ≡ Done = (elim c.match-matches.branch [
       | in-Done w ↦ w.in-Done.is
       | in_default-matches w ↦ absurd (let no = c.if-not-matches.false in let is = w.matches-is in cc)
     ]) in
     let none : c.args.rest.now ≡ [] = nil_from_length c.args.rest.now c.in_default-split_first.ensures.cases in
-    ends_as_told (stages_from (case_of case) c.args.opening.now rest) c.args.before had took Done (Some closed) c.ended-in_default-split_first.result c.ended-in_default-split_first.ensures
-    (ends_here case c.args.opening.now closed c.requires.case ran c.args.before rest had took (ap (λ (l : List Case). map case_of l) none)
-    (subst (λ (s : Status). Wrote Done (report_text case.nested case.cover closed.opening closed.history.entries) s had took) done c.report-status.ensures))
+    ends_here case c.args.opening.now closed c.requires.case ran c.args.before (map case_of c.args.rest.now) had took (ap (λ (l : List Case). map case_of l) none)
+    (subst (λ (s : Status). Wrote Done (report_text case.nested case.cover closed.opening closed.history.entries) s had took) done c.report-status.ensures)
 
 pub returns-in_default-carry-clause-runs : goal.returns-in_default-carry-clause-runs
 returns-in_default-carry-clause-runs g n c =
-    let rest = map case_of c.args.rest.now in let closed = c.in-Some.closed in let case = c.args.case.now in
-    let ran = subst (λ (o : Option Closed). IfSome o (RanStage case.graph case.cover.owned c.args.opening.now case.sessions)) c.in-Some.is c.run_stage-ran.ensures.ran in
-    let had = side (g.O.Sink.takes c.args.output.now).bytes (g.O.Sink.takes c.args.output.now).faults in let took = side (g.O.Sink.takes c.report-status.new.output).bytes (g.O.Sink.takes c.report-status.new.output).faults in
+    let closed = c.in-Some.closed in let case = c.args.case.now in let had = g.O.Sink.takes c.args.output.now in let took = g.O.Sink.takes c.report-status.new.output in
+    let ran = subst (λ (o : Option Closed). IfSome o (RanAlone case.graph case.cover.owned c.args.opening.now case.sessions)) c.in-Some.is c.run_alone-ran.ensures.ran in
     let done : c.report-status.result ≡ Done = (elim c.match-matches.branch [
       | in-Done w ↦ w.in-Done.is
       | in_default-matches w ↦ absurd (let no = c.if-not-matches.false in let is = w.matches-is in cc)
     ]) in
     let next = c.in-Some-split_first.next.now in let behind = c.in-Some-split_first.behind.now in
     let same : c.args.rest.now ≡ next ∷ behind = c.in-Some-split_first.ensures.cases.0 in
-    ends_as_told (stages_from (case_of case) c.args.opening.now rest) c.args.before had took NoMemory (Some closed) c.ended-in_default-carry.result c.ended-in_default-carry.ensures
-    (starves_here case c.args.opening.now closed c.requires.case ran c.args.before rest (case_of next) (map case_of behind) had took (ap (λ (l : List Case). map case_of l) same)
-    (subst (λ (s : Status). Wrote Done (report_text case.nested case.cover closed.opening closed.history.entries) s had took) done c.report-status.ensures))
+    starves_here case c.args.opening.now closed c.requires.case ran c.args.before (map case_of c.args.rest.now) (case_of next) (map case_of behind) had took (ap (λ (l : List Case). map case_of l) same)
+    (subst (λ (s : Status). Wrote Done (report_text case.nested case.cover closed.opening closed.history.entries) s had took) done c.report-status.ensures)
 
 pub run_stages-requires-clause-case : goal.run_stages-requires-clause-case
 run_stages-requires-clause-case g n c κs within =
@@ -74,9 +65,8 @@ run_stages-requires-clause-rest g n c κs within =
 
 pub returns-clause-runs : goal.returns-clause-runs
 returns-clause-runs g n c =
-    let rest = map case_of c.args.rest.now in let closed = c.in-Some.closed in let case = c.args.case.now in
-    let ran = subst (λ (o : Option Closed). IfSome o (RanStage case.graph case.cover.owned c.args.opening.now case.sessions)) c.in-Some.is c.run_stage-ran.ensures.ran in
-    let had = side (g.O.Sink.takes c.args.output.now).bytes (g.O.Sink.takes c.args.output.now).faults in let mid = side (g.O.Sink.takes c.report-status.new.output).bytes (g.O.Sink.takes c.report-status.new.output).faults in let took = side (g.O.Sink.takes c.run_stages.new.output).bytes (g.O.Sink.takes c.run_stages.new.output).faults in
+    let closed = c.in-Some.closed in let case = c.args.case.now in let had = g.O.Sink.takes c.args.output.now in let mid = g.O.Sink.takes c.report-status.new.output in
+    let ran = subst (λ (o : Option Closed). IfSome o (RanAlone case.graph case.cover.owned c.args.opening.now case.sessions)) c.in-Some.is c.run_alone-ran.ensures.ran in
     let done : c.report-status.result ≡ Done = (elim c.match-matches.branch [
       | in-Done w ↦ w.in-Done.is
       | in_default-matches w ↦ absurd (let no = c.if-not-matches.false in let is = w.matches-is in cc)
@@ -84,8 +74,8 @@ returns-clause-runs g n c =
     let next = c.in-Some-split_first.next.now in let behind = c.in-Some-split_first.behind.now in
     let same : c.args.rest.now ≡ next ∷ behind = c.in-Some-split_first.ensures.cases.0 in
     let is_next : IsCase next = All-head IsCase next behind (subst (λ (l : List Case). All IsCase l) same c.requires.rest) in
-    goes_on_here case c.args.opening.now closed c.requires.case ran c.args.before rest next (map case_of behind)
-    c.in-Ok.carried had mid took c.run_stages.result.0.status c.run_stages.result.0.closed (ap (λ (l : List Case). map case_of l) same)
+    goes_on_here case c.args.opening.now closed c.requires.case ran c.args.before (map case_of c.args.rest.now) next (map case_of behind)
+    c.in-Ok.carried had mid (g.O.Sink.takes c.run_stages.new.output) c.run_stages.result.0 c.run_stages.result.1 (ap (λ (l : List Case). map case_of l) same)
     (carries_here case c.args.opening.now closed c.requires.case ran c.args.before next c.in-Ok.carried is_next c.in-Ok.ensures.carried)
     (subst (λ (s : Status). Wrote Done (report_text case.nested case.cover closed.opening closed.history.entries) s had mid) done c.report-status.ensures)
     c.run_stages.ensures.runs

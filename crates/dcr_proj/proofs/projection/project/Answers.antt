@@ -4,34 +4,27 @@ use Rattle.dcr_graph.specs.GraphValue.{rules_of}
 use Rattle.dcr_graph.specs.Projection.{leads_to, tracks_included, tracks_executed, tracks_pending, in_alphabet}
 use Rattle.dcr_graph.specs.declared.kind.Kind.TheVariants.{Condition, Milestone}
 use Rattle.dcr_proj.specs.CoverValue.{atoms_of}
-use Rattle.dcr_proj.specs.Rows.{rows_where, guards_of, effects_within, guard_row, effect_row, guard_masks, effect_masks, IsGuardRow, IsEffectRow}
+use Rattle.dcr_proj.specs.Rows.{rows_where, guards_of, effects_within, event_row, guard_masks, effect_masks, HasRow}
 use Rattle.dcr_proj.specs.Alphabet.{alphabet_within}
 use Rattle.dcr_proj.specs.ProjectionModel.{local_of}
 use Rattle.dcr_set.proofs.ToldLemmas.{union-those, union_set-those}
-use Rattle.dcr_proj.proofs.MaskLemmas.{room_first, kept_guard_row}
+use Rattle.dcr_proj.proofs.MaskLemmas.{room_first}
 use Rattle.dcr_proj.proofs.RowLemmas.{rows-ext}
 use Rattle.dcr_proj.proofs.ProjectionLemmas.{same_local, alphabet_is, effect_rows_are}
 use Rattle.dcr_proj.proofs.projection.project.Goals as goal
 use Rattle.dcr_proj.proofs.projection.project.Goals.{After-into_sets}
 
-pub of_each-requires-clause-room : goal.of_each-requires-clause-room
-of_each-requires-clause-room c = room_first c.in_ok-masks.masks.sets.items c.atoms.result c.in_ok-masks.ensures ∙ c.atoms.ensures.atoms
+pub of-requires-clause-room : goal.of-requires-clause-room
+of-requires-clause-room c = room_first c.in_ok-masks.masks.sets.items.items c.atoms.result c.in_ok-masks.ensures ∙ c.atoms.ensures.atoms
 
--- the numbers of what guards an atom, among all masks
-guard_at : (c : After-into_sets) (e : ℕ) → e < length c.args.graph.now.names
-    → IsGuardRow (has c.args.own.now) (guards_of (rules_of c.args.graph.now)) c.into_sets.result.items e (guard_row c.in_ok-guards.guards.items e)
-guard_at c e atom =
-    subst (λ masks. IsGuardRow (has c.args.own.now) (guards_of (rules_of c.args.graph.now)) masks e (guard_row c.in_ok-guards.guards.items e)) (sym c.into_sets.ensures.sets)
-    (kept_guard_row (has c.args.own.now) (guards_of (rules_of c.args.graph.now)) c.of_each.new.masks.sets.items c.of_each-2.new.masks.sets.items e
-    (guard_row c.in_ok-guards.guards.items e) c.of_each-2.ensures.kept (c.in_ok-guards.ensures.rows e atom))
-
--- and of what an event of the alphabet does
-effect_at : (c : After-into_sets) (e : ℕ) → e < length c.args.graph.now.names
-    → IsEffectRow (has c.alphabet_of-alphabet.result) (effects_within (rules_of c.args.graph.now) c.joined-tracked_in.result c.joined-tracked_re.result)
-    c.into_sets.result.items e (effect_row c.in_ok-effects.effects.items e)
-effect_at c e atom =
-    subst (λ masks. IsEffectRow (has c.alphabet_of-alphabet.result) (effects_within (rules_of c.args.graph.now) c.joined-tracked_in.result c.joined-tracked_re.result)
-    masks e (effect_row c.in_ok-effects.effects.items e)) (sym c.into_sets.ensures.sets) (c.in_ok-effects.ensures.rows e atom)
+-- the row of an atom, among all masks
+row_at : (c : After-into_sets) (e : ℕ) → e < length c.args.graph.now.names
+    → HasRow (has c.args.own.now) (has c.alphabet_of-alphabet.result) (guards_of (rules_of c.args.graph.now))
+    (effects_within (rules_of c.args.graph.now) c.joined-tracked_in.result c.joined-tracked_re.result) c.into_sets.result.items c.in_ok-rows.field-0.rows.items c.in_ok-rows.field-0.numbers.items e
+row_at c e atom =
+    subst (λ masks. HasRow (has c.args.own.now) (has c.alphabet_of-alphabet.result) (guards_of (rules_of c.args.graph.now))
+    (effects_within (rules_of c.args.graph.now) c.joined-tracked_in.result c.joined-tracked_re.result) masks c.in_ok-rows.field-0.rows.items c.in_ok-rows.field-0.numbers.items e)
+    (sym c.into_sets.ensures.sets) (c.in_ok-rows.ensures.rows e atom)
 
 own_room : (c : After-into_sets) → length c.copy.result ≡ length c.args.graph.now.names
 own_room c = ap (λ s. length s) c.copy.ensures ∙ c.requires
@@ -45,19 +38,19 @@ invariant_of-result c =
       tracked_re = c.joined-tracked_re.ensures.room ∙ room;
       alphabet = c.alphabet_of-alphabet.ensures.room ∙ sym own;
       masks = c.into_sets.ensures.masks;
-      rooms = ap (λ sets. atoms_of sets) c.into_sets.ensures.sets ∙ c.in_ok-effects.ensures.room ∙ sym own;
-      as_many_guards = c.in_ok-guards.ensures.len ∙ sym own;
-      as_many_effects = c.in_ok-effects.ensures.len ∙ sym own;
-      guards = λ e below. (guard_at c e (omega arith)).within;
-      effects = λ e below. (effect_at c e (omega arith)).within;
+      rooms = ap (λ sets. atoms_of sets) c.into_sets.ensures.sets ∙ c.in_ok-rows.ensures.room ∙ sym own;
+      as_many_numbers = c.in_ok-rows.ensures.len ∙ sym own;
+      numbers = λ e below. (row_at c e (omega arith)).number;
+      guards = λ e below. (row_at c e (omega arith)).row.guards.within;
+      effects = λ e below. (row_at c e (omega arith)).row.effects.within;
     }
 
 pub returns : goal.returns
 returns c =
     let G = rules_of c.args.graph.now in let S = c.args.own.now in let n = length c.args.graph.now.names in let masks = c.into_sets.result.items in
     let tin = c.joined-tracked_in.result in let tre = c.joined-tracked_re.result in let A = c.alphabet_of-alphabet.result in
-    let guard_of : (e : ℕ) → _ = λ e. guard_masks masks (guard_row c.in_ok-guards.guards.items e) in
-    let effect_of : (e : ℕ) → _ = λ e. effect_masks masks (effect_row c.in_ok-effects.effects.items e) in
+    let guard_of : (e : ℕ) → _ = λ e. guard_masks masks (event_row c.in_ok-rows.field-0.rows.items c.in_ok-rows.field-0.numbers.items e).guards in
+    let effect_of : (e : ℕ) → _ = λ e. effect_masks masks (event_row c.in_ok-rows.field-0.rows.items c.in_ok-rows.field-0.numbers.items e).effects in
     let tracked_ex : c.joined-tracked_ex.result ≡ those G.atoms (tracks_executed G S) =
     c.joined-tracked_ex.ensures.joined ∙ ap (union S) c.sources_into-conditions.ensures.sources ∙ union_set-those S G.atoms (leads_to G Condition (has S)) c.requires in
     let tracked_re : c.joined-tracked_re.result ≡ those G.atoms (tracks_pending G S) =
@@ -77,14 +70,14 @@ returns c =
       tracked_re = tre;
       alphabet = A;
       masks = c.into_sets.result;
-      guards = c.in_ok-guards.guards;
-      effects = c.in_ok-effects.effects;
+      rows = c.in_ok-rows.field-0.rows;
+      numbers = c.in_ok-rows.field-0.numbers;
     })) c.copy.ensures
     ∙ same_local S _ _ _ _ _ _ _ _ _ _ _ _ tracked_in tracked_ex tracked_re alphabet
     (ap (λ k. rows_where k (has S) guard_of) c.requires
-    ∙ rows-ext n (has S) (has S) guard_of (guards_of G) (λ _ _. refl) (λ e atom owned. (guard_at c e atom).told owned))
+    ∙ rows-ext n (has S) (has S) guard_of (guards_of G) (λ _ _. refl) (λ e atom owned. (row_at c e atom).row.guards.told owned))
     (ap (λ k. rows_where k (has A) effect_of) c.requires
-    ∙ rows-ext n (has A) (has A) effect_of (effects_within G tin tre) (λ _ _. refl) (λ e atom heard. (effect_at c e atom).told heard)
+    ∙ rows-ext n (has A) (has A) effect_of (effects_within G tin tre) (λ _ _. refl) (λ e atom heard. (row_at c e atom).row.effects.told heard)
     ∙ ap (λ s. rows_where G.atoms (has s) (effects_within G tin tre)) alphabet
     ∙ ap (λ s. rows_where G.atoms (has (those G.atoms (in_alphabet G S))) (effects_within G s tre)) tracked_in
     ∙ ap (λ s. rows_where G.atoms (has (those G.atoms (in_alphabet G S))) (effects_within G (those G.atoms (tracks_included G S)) s)) tracked_re

@@ -1,5 +1,4 @@
-use Rattle.std.proofs.Common.{ℕ, List, length, ap, ◌∙◌, sym}
-use Rattle.dcr_report.specs.Report.{lines_text, case_lines}
+use Rattle.std.proofs.Common.{length}
 use Rattle.dcr_report.proofs.ReportLemmas.{cover_room}
 use Rattle.dcr_report.proofs.digest.case_digest.Goals as goal
 

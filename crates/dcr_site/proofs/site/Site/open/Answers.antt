@@ -12,6 +12,7 @@ invariant_of-result c =
         included = ap (λ m. length m.included) c.start-mark.ensures.cut ∙ rooms.2;
       },
       search rules,
+      c.new-can.ensures.room ∙ c.room.ensures.room ∙ ap (λ s. length s) c.own.ensures.own,
       search rules,
     )
 

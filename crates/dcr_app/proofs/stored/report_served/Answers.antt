@@ -1,8 +1,0 @@
-use Rattle.std.proofs.Common.{refl}
-use Rattle.dcr_app.proofs.LinksLemmas.{nothing_of}
-use Rattle.dcr_app.proofs.stored.report_served.Goals as goal
-
-pub returns-then-no_memory-clause-wrote : goal.returns-then-no_memory-clause-wrote
-returns-then-no_memory-clause-wrote g c =
-    let case = c.args.case.now in let closed = c.args.closed.now in
-    (c.due_served-due.result, c.due_served-due.ensures.due, (nothing_of case.nested case.cover closed.opening closed.history.entries (g.O.Sink.takes c.args.output.now), refl))
