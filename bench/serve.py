@@ -57,7 +57,7 @@ def started(sites, sessions, workers, *words, folder="."):
     with tempfile.TemporaryFile() as file:
         file.write(case(sites).encode())
         file.seek(0)
-        words = [PROGRAM, "serve", "--sessions", str(sessions), "--workers", str(workers), *words]
+        words = [PROGRAM[0], "serve", "--sessions", str(sessions), "--workers", str(workers), *words]
         return subprocess.Popen(words, stdin=file, stdout=subprocess.DEVNULL, cwd=folder)
 
 
