@@ -22,7 +22,7 @@ import second  # noqa: F401
 from model import TOP, random_case
 
 SCHEMA = os.path.join(TOP, "docs/case.schema.json")
-TYPES = {"object": dict, "array": list, "string": str, "boolean": bool}
+TYPES = {"object": dict, "array": list, "string": str, "boolean": bool, "integer": int}
 # These relate two places of a file, or have a label of 200 characters and more bytes, which a schema can't say.
 BEYOND_A_SCHEMA = {"5-event-name", "6-parent", "7-mark-on-nest", "8-relation-end", "9-clash", "10-owned", "10-site-name", "11-uncovered", "12-call-line"}
 BEYOND_A_SCHEMA |= {"16-policy-user", "16-policy-by", "17-denied"}
@@ -36,14 +36,18 @@ def wrong(value, rule, whole, at="$"):
         found = wrong(value, whole["$defs"][rule["$ref"].rpartition("/")[2]], whole, at)
         if found:
             return found
-    if "type" in rule and not isinstance(value, TYPES[rule["type"]]):
+    if "type" in rule and (not isinstance(value, TYPES[rule["type"]]) or rule["type"] == "integer" and isinstance(value, bool)):
         return "%s: no %s" % (at, rule["type"])
+    if rule.get("type") == "integer" and not rule.get("minimum", value) <= value <= rule.get("maximum", value):
+        return "%s: another number" % at
     if "enum" in rule and value not in rule["enum"] or "const" in rule and value != rule["const"]:
         return "%s: another value" % at
     if isinstance(value, str) and (len(value) > rule.get("maxLength", len(value)) or not re.search(rule.get("pattern", "").replace("$", r"\Z"), value)):
         return "%s: another text" % at
     if isinstance(value, list) and not rule.get("minItems", 0) <= len(value) <= rule.get("maxItems", len(value)):
         return "%s: too few or too many" % at
+    if isinstance(value, list) and rule.get("uniqueItems") and len({json.dumps(it, sort_keys=True) for it in value}) < len(value):
+        return "%s: one twice" % at
     found = wrong_inside(value, rule, whole, at)
     if not found and "if" in rule:
         branch = "else" if wrong(value, rule["if"], whole, at) else "then"

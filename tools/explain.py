@@ -254,7 +254,14 @@ def call_line(file, session, number):
     return Told(value, wrong, "A call is `exec SITE EVENT`, `look SITE`, `enabled SITE` or `accepting`, with one space between the words.", "mend the line")
 
 
-REFUSALS = {it.__name__.replace("_", "-"): it for it in (shape, limit, event_name, parent, mark_on_nest, relation_end, clash, site_name, owned, uncovered, call_line, policy, denied)}
+def no_site(file, *words):
+    name = " ".join(words)
+    if name in file.sites:
+        raise ValueError
+    return Told(file.top.get("cover"), "no site has the name `%s`%s" % (name, near(name, file.sites)), "`dcr part SITE` writes the part of the site with this name.", "give the name of a site, as it stands here")
+
+
+REFUSALS = {it.__name__.replace("_", "-"): it for it in (shape, limit, event_name, parent, mark_on_nest, relation_end, clash, site_name, owned, uncovered, call_line, policy, denied, no_site)}
 EXPECTED = {
     "head": ("The first line is `dcr 1` or `dcr 2`.", "where it looks right, the line ends or the first bytes were changed on the way; a case file is run, not replayed"),
     "graph": ("`graph` and the graph as the program writes it, byte for byte.", "a graph that would be refused as a case, or the right one in another spelling"),

@@ -19,6 +19,7 @@ from checks.program import prepare  # noqa: F401
 
 sys.path[:0] = [os.path.join(TOP, "tools"), os.path.join(TOP, "bench")]
 import apart  # noqa: E402
+import part  # noqa: E402
 from model import Case, give_roles, random_case  # noqa: E402
 from replay import check as replayed  # noqa: E402
 
@@ -280,6 +281,49 @@ def check_sites_apart_over_random_networks():
         text, number = random_case(draw).encode(), draw.choice([draw.randrange(20), draw.randrange(1 << 32)])
         status, report, _ = run([PROGRAM, "nodes", str(number)], given=text)
         want(report.startswith(b"refused 9 clash ") or (status, report) == apart.answer(text, number), "nodes %d of %s: %s" % (number, text, report))
+
+
+# ---- the part of a site
+
+
+def is_part_of(text, given, site):
+    """What the program tells of a site is what the second implementation tells, and by the schema a part."""
+    told = run([PROGRAM, "part", site], given=given)
+    want(told == (*part.answer(given, site), b""), "part %s of %s: %s" % (site, text, told))
+    rule = json.loads(read("docs/part.schema.json"))
+    found = told[0] == 0 and module("bench/schema.py").wrong(json.loads(told[1]), rule, rule)
+    want(not found, "part %s of %s: by the schema: %s" % (site, text, found))
+    return told
+
+
+def check_each_site_of_an_example_has_its_part():
+    for name in examples():
+        given = read("examples/%s.json" % name)
+        for number, (site, _) in enumerate(Case(given.decode()).sites):
+            told = json.loads(is_part_of(name, given, site)[1])
+            want((told["site"], told["number"]) == (site, number), "the part of %s tells another site" % site)
+            status, wrote, said = run([sys.executable, os.path.join(TOP, "tools/part.py"), "--read"], given=json.dumps(told).encode())
+            want(status == 0 and wrote.startswith(b"site %s, number %d, " % (site.encode(), number)) and not said, "%s%s" % (wrote, said))
+
+
+def check_the_parts_of_random_cases():
+    draw, counts = random.Random(11), [0, 0]
+    for _ in range(120):
+        text = random_case(draw)
+        for site in [*(it["site"] for it in json.loads(text)["cover"]), "nobody"]:
+            counts[is_part_of(text, text.encode(), site)[0] == 0] += 1
+    want(min(counts) > 100, "refused and told were %s" % counts)
+
+
+def check_a_word_that_is_no_site_is_told_as_it_is():
+    given = read("examples/medication.json")
+    for site in ["Nurse", "", "nurse ", "a\nb", 'a"b', "\u00e9", "--store", "x" * 100_000]:
+        told = run([PROGRAM, "part", site], given=given)
+        want(told == (3, b"refused 18 no-site %s\n" % site.encode(), b""), "%s: %s" % (site[:90], str(told)[:200]))
+    path = os.path.join(EXAMPLES, "medication.json")
+    status, wrote, said = tool("explain.py", path, "refused", "18", "no-site", "nurs")
+    want(status == 1 and "no site has the name `nurs`" in wrote and "`nurse`" in wrote and "rule:" in wrote and not said, "%d %s%s" % (status, wrote, said))
+    want(tool("explain.py", path, "refused", "18", "no-site", "nurse")[0] == 2, "the nurse is a site")
 
 
 def denied_by_definition(file, session, atom):

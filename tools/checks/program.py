@@ -68,6 +68,7 @@ def check_words_that_are_no_command_are_usage():
     lines += [["run", "--workers"], ["run", "--workers=2"], ["run", "--store", "--workers", "2"], ["run", "--store", "--store"], ["run", "--workers", "2", "--workers", "2"]]
     lines += [["run", "--workers", "2", "store"], ["run", "--workers", "2", "--store", "x"], ["--store", "run"], ["replay", "--store"], ["load"], ["load", "-1"], ["load", "07"], ["load", "4294967296"], ["load", "7", "7"], ["serve"], ["adapt", "adapt"], ["adapt", ""], ["adapt", "--store"], ["adapt", "--workers", "1"]]
     lines += [["conform", ""], ["conform", "x"], ["conform", "--store"], ["conform", "conform"], ["Conform"], ["run", "conform"], ["conform "], ["conform", b"\xff"]]
+    lines += [["part"], ["part", "doctor", "nurse"], ["part", "doctor", "--store"], ["part", "doctor", ""], ["part", b"\xff"], ["Part", "doctor"], ["part "], ["doctor", "part"]]
     for words in lines:
         told = dcr(*words, given=read("examples/first.json"))
         want(told == (USAGE, b"usage\n", b""), "%s gives %s" % (words, told))
@@ -284,9 +285,9 @@ def check_a_tape_that_may_not_grow_ends_the_run():
 
 
 def check_a_folder_as_input_is_a_read_fault():
-    for word in ["run", "replay", "conform", "adapt"]:
-        told = in_shell('"$@" <"%s"' % EXAMPLES, word, stdin=subprocess.DEVNULL)
-        want(told == (READ_FAULT, b"", b"dcr: the input failed as it was read; nothing was written\n"), "%s gives %s" % (word, told))
+    for words in [["run"], ["replay"], ["conform"], ["adapt"], ["part", "doctor"]]:
+        told = in_shell('"$@" <"%s"' % EXAMPLES, *words, stdin=subprocess.DEVNULL)
+        want(told == (READ_FAULT, b"", b"dcr: the input failed as it was read; nothing was written\n"), "%s gives %s" % (words, told))
 
 
 def check_an_input_that_can_only_be_written_is_a_read_fault():
@@ -370,6 +371,7 @@ def check_a_full_device_as_output_is_a_write_fault():
         raise NotTried("there is no /dev/full")
     inputs = [(["run"], read("examples/first.json")), (["run"], large_case()), (["run"], b"{"), (["replay"], read("examples/first.report"))]
     inputs += [(["adapt"], read("examples/laboratory.stages")), (["adapt"], b""), (["replay"], wrong_report()), ([], b""), (["run", "x"], b""), ([b"\xff"], b"")]
+    inputs += [(["part", "nurse"], read("examples/medication.json")), (["part", "nobody"], read("examples/medication.json")), (["part", "nurse"], b"{")]
     inputs += [(["conform"], read("examples/medication.log")), (["conform"], read("examples/refused/15-log.csv")), (["conform"], b"{")]
     for words, given in inputs:
         with open("/dev/full", "wb") as full:

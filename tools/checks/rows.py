@@ -35,6 +35,7 @@ sys.path[:0] = [os.path.join(TOP, "tools"), os.path.join(TOP, "bench")]
 import apart  # noqa: E402
 import carried  # noqa: E402
 import load  # noqa: E402
+import part  # noqa: E402
 import reader  # noqa: E402
 import replay  # noqa: E402
 import stored  # noqa: E402
@@ -194,6 +195,8 @@ def modelled(row, given):
         return traces.answer(given)
     if row.words == ["adapt"]:
         return carried.answer(given)
+    if row.words[:1] == ["part"] and len(row.words) == 2:
+        return part.answer(given, row.words[1])
     if row.tape is not None:
         return stored.answer(given, row.tape or None)[:2]
     return reader.answer(given)

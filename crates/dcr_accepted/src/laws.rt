@@ -1,7 +1,8 @@
 ghost use Rattle.dcr_accepted.specs.Spelling.{AcceptedIsSpelled};
 ghost use Rattle.dcr_accepted.specs.Verdicts.{EachHasAVerdict};
 
-use dcr_canon::canonical_texts_are_json;
+use dcr_canon::{canonical_texts_are_json, canonical_texts_have_no_line_end};
+use dcr_reading::accepted_texts_mean_one;
 
 /// A nested graph and a cover of it are accepted exactly where some case file spells both, and a nested graph
 /// alone is accepted exactly where some case file spells it, with some cover. So what the definitions of accepted
@@ -16,4 +17,6 @@ pub fn each_text_has_a_verdict()
     ensures { EachHasAVerdict }
 {
     canonical_texts_are_json();
+    canonical_texts_have_no_line_end();
+    accepted_texts_mean_one();
 }

@@ -17,8 +17,6 @@ use Rattle.dcr_engine.specs.Laws.{OrderedIsTold}
 use Rattle.dcr_json.specs.Judged.{Spelled}
 use Rattle.dcr_adapt.specs.Stages.{stages_in}
 use Rattle.dcr_log.specs.Records.{first_bad}
-use Rattle.dcr_replay.specs.Laws.{ValidIsReport}
-use Rattle.dcr_replay.specs.LeastWrong.{LeastIsTold}
 use Rattle.dcr_replay.specs.OneVerdict.{VerdictIsOne}
 use Rattle.dcr_replay.specs.declared.verdict.Verdict.{Verdict}
 use Rattle.dcr_replay.specs.declared.verdict.Verdict.TheVariants as verdict
@@ -31,6 +29,7 @@ use Rattle.dcr_app.specs.Answers.{Answers, AnswersBytes, AnswersPlain, AnswersWi
 use Rattle.dcr_app.specs.Loaded.{AnswersLoad}
 use Rattle.dcr_app.specs.Logged.{case_before_log, rows_in}
 use Rattle.dcr_app.specs.Outside.{CountsWhere, IsUnread, LeavesInput, TookAtMost, WereLeft, Wrote, limit_in, most_bytes, wrote_all, write_failed, write_starved}
+use Rattle.dcr_app.specs.Parted.{EndsPart}
 use Rattle.dcr_app.specs.Stored.{LeavesDisk}
 use Rattle.dcr_app.specs.Telling.{IsServing, LeavesDoor, LeavesFor, told_by}
 use Rattle.dcr_app.specs.declared.answer.Answer.{Answer}
@@ -40,7 +39,7 @@ use Rattle.dcr_app.specs.declared.app.Task.TheVariants as task
 use Rattle.dcr_app.specs.declared.command.Command.{Command}
 use Rattle.dcr_app.specs.declared.command.Command.TheVariants.{Load, Read}
 use Rattle.dcr_app.specs.declared.command.Reading.{Reading}
-use Rattle.dcr_app.specs.declared.command.Reading.TheVariants.{Execute, Replay, Nodes, Conform, Adapt}
+use Rattle.dcr_app.specs.declared.command.Reading.TheVariants.{Execute, Replay, Nodes, Conform, Adapt, Part}
 use Rattle.dcr_app.specs.declared.command.Way.{Way}
 use Rattle.dcr_app.specs.declared.command.Way.TheVariants.{Run, Serve}
 use Rattle.dcr_app.proofs.AdaptLemmas.{stages_ended, starved_stages}
@@ -50,6 +49,7 @@ use Rattle.dcr_app.proofs.DueLemmas.{by_due}
 use Rattle.dcr_app.proofs.ConformLemmas.{log_ended, long_log, refused_log, starved_log}
 use Rattle.dcr_app.proofs.LoadLemmas.{load_ended}
 use Rattle.dcr_app.proofs.OutsideLemmas.{IsEnded, by_wrote, counted, ended_silent, ended_starved, ended_with, of_left, uncounted}
+use Rattle.dcr_app.proofs.PartLemmas.{part_ended, refused_part, starved_part}
 use Rattle.dcr_app.proofs.ReplayLemmas.{report_ended}
 use Rattle.dcr_app.proofs.RunLemmas.{cases_are_accepted, done_throughout, tells_left, told_by_one, too_long}
 use Rattle.dcr_app.proofs.SaysLemmas.{SaysAt, says_all}
@@ -82,6 +82,7 @@ starved_answer Replay disk bytes status is = (λ more. inr is, λ few verdict fo
 starved_answer (Nodes number) disk bytes status is = starved_case (IsOr Done) false disk (case_accepted bytes) status (inr is) is
 starved_answer Conform disk bytes status is = starved_log (case_before_log bytes) (first_bad (rows_in bytes)) status is
 starved_answer Adapt disk bytes status is = record { long = λ more. inr is; short = λ few. starved_stages (stages_in bytes) status is }
+starved_answer (Part site) disk bytes status is = starved_part site (case_accepted bytes) status is
 
 -- an input that is too long is refused
 long_answer : (reading : Reading) (disk : DiskView) (bytes : List ℕ) (status : Status) → most_bytes reading < length bytes → IsOr Refused status → IsAnswered reading disk bytes status
@@ -90,6 +91,7 @@ long_answer Replay disk bytes status more or = (λ _. or, λ few. absurd (omega 
 long_answer (Nodes number) disk bytes status more or = subst (λ r. IsAnsweredCase (IsOr Done) false disk r status) (sym (too_long bytes more)) or
 long_answer Conform disk bytes status more or = long_log bytes status more or
 long_answer Adapt disk bytes status more or = record { long = λ _. or; short = λ few. absurd (omega (arith, more, few)) }
+long_answer (Part site) disk bytes status more or = subst (λ (r : Result Spelled AcceptStop). EndsPart site r status) (sym (too_long bytes more)) or
 
 -- and so are bytes of which a refusal holds
 refused_answer : (reading : Reading) (disk : DiskView) (bytes line : List ℕ) (status : Status) → length bytes ≤ most_bytes reading → RefusesBytes reading bytes line → IsOr Refused status
@@ -100,6 +102,7 @@ refused_answer (Nodes number) disk bytes line status few it or = subst (λ r. Is
 refused_answer Conform disk bytes line status few it or = refused_log bytes it.0 status it.1 or
 refused_answer Adapt disk bytes line status few it or =
     record { long = λ more. absurd (omega (arith, more, few)); short = λ _. subst (λ (r : Result (List Spelled) _). EndsStages r status) (sym it.1) or }
+refused_answer (Part site) disk bytes line status few it or = refused_part site bytes line status it or
 
 -- ---- what was read
 
@@ -148,6 +151,7 @@ plain_read (Nodes number) bytes had took answer (bytes_told it) = of_run answer.
     of_run (Some closed) None it = elim it [ ]
 plain_read Conform bytes had took answer (bytes_told it) = by_wrote IsRead tt tt it.1.wrote (λ _. tt)
 plain_read Adapt bytes had took answer (bytes_told it) = by_wrote IsRead tt tt it.1.runs.wrote (λ _. tt)
+plain_read (Part site) bytes had took answer (bytes_told it) = by_wrote IsRead tt tt it.1.wrote (λ _. tt)
 
 -- what is left to do of the bytes of a whole input
 pub whole_task : (reading : Reading) (left rest : Side) (has_ended : Type 0) (bytes : List ℕ) (had took : Side) (what : Task) → WasRead reading left rest has_ended bytes → IsTaskOf reading bytes had took what
@@ -172,6 +176,7 @@ module _ (had took : Side) (left : Option (List ℕ)) (has_ended : Type 0) (stat
     more_told (Nodes number) bytes (bytes_told it) = bytes_told it
     more_told Conform bytes (bytes_told it) = bytes_told it
     more_told Adapt bytes (bytes_told it) = bytes_told it
+    more_told (Part site) bytes (bytes_told it) = bytes_told it
 
     pub more_answered : (command : Option Command) → Plain command → AnswersWith OfCase command left has_ended had took status closed_run world
     more_answered None it = it
@@ -204,6 +209,7 @@ module _ (had took : Side) (left : Option (List ℕ)) (has_ended : Type 0) (stat
   disk_plain view faults disk after same (Some (Read (Nodes number))) it = same
   disk_plain view faults disk after same (Some (Read Conform)) it = same
   disk_plain view faults disk after same (Some (Read Adapt)) it = same
+  disk_plain view faults disk after same (Some (Read (Part site))) it = same
 
   -- and so is the door
   pub door_plain : {B L R : Type 0} (doors : Doors B L R) (door : B) (ends : List (LinkEnd L R)) → ends ≡ [] → (command : Option Command) → Plain command
@@ -217,6 +223,7 @@ module _ (had took : Side) (left : Option (List ℕ)) (has_ended : Type 0) (stat
   door_plain doors door ends none (Some (Read (Nodes number))) it = (refl, none)
   door_plain doors door ends none (Some (Read Conform)) it = (refl, none)
   door_plain doors door ends none (Some (Read Adapt)) it = (refl, none)
+  door_plain doors door ends none (Some (Read (Part site))) it = (refl, none)
 
 -- ---- what is left to do
 
@@ -333,16 +340,17 @@ module _ {D B L R : Type 0} (view : D → DiskView) (faults : D → ℕ) (doors 
 
   -- ---- how it ended
 
-  module _ (law : ValidIsReport) (one : VerdictIsOne) (first : LeastIsTold) (accepted : AcceptedAreTheFormats) (lists : OneList) (none : NoCause) where
+  module _ (one : VerdictIsOne) (accepted : AcceptedAreTheFormats) (lists : OneList) (none : NoCause) where
     told_ended : (reading : Reading) (bytes : List ℕ) → WereLeft left bytes → length bytes ≤ most_bytes reading
         → TellsBytes (Executed view faults doors door before had took end) reading bytes had took end.status end.closed end.world
         → IsEnded ⊥ (Said (Some (Read reading))) (IsAnswered reading (view before) bytes end.status) end.status had took
     told_ended (Execute way store) bytes read few it =
         case_ended view faults doors door end.door end.ends.items way store before end.disk bytes had took end.status left read accepted lists none end.closed it.1
-    told_ended Replay bytes read few it = report_ended law one first (view before) (view end.disk) left bytes had took end.closed end.status read few it.1
+    told_ended Replay bytes read few it = report_ended one (view before) (view end.disk) left bytes had took end.closed end.status read few it.1
     told_ended (Nodes number) bytes read few it = apart_ended (cases_are_accepted accepted) number (view before) (view end.disk) left bytes had took end.status end.closed end.world it
     told_ended Conform bytes read few it = log_ended (cases_are_accepted accepted) (view before) (view end.disk) left bytes had took end.closed end.status few it.1
     told_ended Adapt bytes read few it = stages_ended (view before) (view end.disk) left bytes had took end.status end.closed few it.1
+    told_ended (Part site) bytes read few it = part_ended (cases_are_accepted accepted) site (view before) (view end.disk) left bytes had took end.closed end.status it.1
 
     bytes_ended : (reading : Reading) (bytes : List ℕ) → WereLeft left bytes → length bytes ≤ most_bytes reading
         → AnswersBytes (Executed view faults doors door before had took end) reading bytes had took end.status end.closed end.world
@@ -433,6 +441,7 @@ module _ {D B L R : Type 0} (view : D → DiskView) (faults : D → ℕ) (doors 
   headline_by (Some (Read (Nodes number))) it = tt
   headline_by (Some (Read Conform)) it = tt
   headline_by (Some (Read Adapt)) it = tt
+  headline_by (Some (Read (Part site))) it = tt
 
   pub converse_by : AcceptedAreTheFormats → OrderedIsTold → (command : Option Command) → Answered command → IsConverse command left end.closed
   converse_by law ordered None it = tt
@@ -450,3 +459,4 @@ module _ {D B L R : Type 0} (view : D → DiskView) (faults : D → ℕ) (doors 
   converse_by law ordered (Some (Read (Nodes number))) it = tt
   converse_by law ordered (Some (Read Conform)) it = tt
   converse_by law ordered (Some (Read Adapt)) it = tt
+  converse_by law ordered (Some (Read (Part site))) it = tt

@@ -5,7 +5,7 @@ use Rattle.std.specs.declared.alloc.Global.{Global}
 use Rattle.std.proofs.lemmas.Bool.{le-leb, leb-true}
 use Rattle.std.proofs.lemmas.Slice.Eq.{bytes_eq-Decides}
 use Rattle.dcr_set.proofs.LeastLemmas.{least-from, least-none_from, least-some}
-use Rattle.dcr_app.specs.Command.{HasNumbers, IsWay, alone, command_in, command_spelled, executed, number_alone, number_behind, number_in, store_in, workers_in}
+use Rattle.dcr_app.specs.Command.{HasNumbers, IsWay, alone, command_in, command_spelled, executed, number_alone, number_behind, number_in, part_with, store_in, workers_in}
 use Rattle.dcr_app.specs.declared.command.Command.{Command}
 use Rattle.dcr_app.specs.declared.command.Command.TheVariants.{Load, Read}
 use Rattle.dcr_app.specs.declared.command.Reading.{Reading}
@@ -96,6 +96,11 @@ has_alone : (reading : Reading) (words : List (List ℕ)) → HasNumbers (Read r
 has_alone reading [] is = is
 has_alone reading (word ∷ words) is = tt
 
+has_part : (words : List (List ℕ)) → IfSome (part_with words) HasNumbers
+has_part [] = tt
+has_part (site ∷ []) = tt
+has_part (site ∷ word ∷ words) = tt
+
 has_spelled : (words : List (List ℕ)) → IfSome (command_spelled words) HasNumbers
 has_spelled [] = tt
 has_spelled (word ∷ rest) =
@@ -107,7 +112,8 @@ has_spelled (word ∷ rest) =
     (either (bytes_eq word (codes "replay")) _ _ (has_alone Replay rest tt)
     (either (bytes_eq word (codes "load")) _ _ (mapped HasNumbers (number_alone rest) (λ number. Load number) (any_some (number_alone rest)))
     (either (bytes_eq word (codes "nodes")) _ _ (mapped HasNumbers (number_alone rest) (λ number. Read (Nodes number)) (any_some (number_alone rest)))
-    (either (bytes_eq word (codes "conform")) _ _ (has_alone Conform rest tt) (either (bytes_eq word (codes "adapt")) _ _ (has_alone Adapt rest tt) tt))))))
+    (either (bytes_eq word (codes "conform")) _ _ (has_alone Conform rest tt)
+    (either (bytes_eq word (codes "adapt")) _ _ (has_alone Adapt rest tt) (either (bytes_eq word (codes "part")) _ _ (has_part rest) tt)))))))
   where
     any_some : (o : Option ℕ) → IfSome o (λ _. Unit {0})
     any_some None = tt

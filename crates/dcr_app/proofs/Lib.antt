@@ -11,5 +11,6 @@ mod CaseLemmas
 mod ReplayLemmas
 mod ApartLemmas
 mod ConformLemmas
+mod PartLemmas
 mod AdaptLemmas
 mod AnswerLemmas

@@ -6,8 +6,8 @@ use Rattle.dcr_base.specs.Side.{Adds, Side}
 use Rattle.dcr_base.specs.declared.status.Status.{Status}
 use Rattle.dcr_journal.specs.declared.closed.Closed.{Closed}
 use Rattle.dcr_replay.specs.FirstWrong.{IsVerdict}
-use Rattle.dcr_replay.specs.Laws.{IsReport, ValidIsReport}
-use Rattle.dcr_replay.specs.LeastWrong.{IsLeastWrong, LeastIsTold}
+use Rattle.dcr_replay.specs.Laws.{IsReport}
+use Rattle.dcr_replay.specs.LeastWrong.{IsLeastWrong}
 use Rattle.dcr_replay.specs.OneVerdict.{VerdictIsOne}
 use Rattle.dcr_replay.specs.declared.verdict.Verdict.{Verdict}
 use Rattle.dcr_replay.specs.declared.verdict.Verdict.TheVariants as verdict
@@ -30,24 +30,24 @@ told_verdict bytes v had took due status is due_is (inl starved) = bytes_starved
 told_verdict bytes v had took due status is due_is (inr it) =
     bytes_told ((refl, refl), record { found = v; is = is; line = subst (λ (d : Status). Wrote d (verdict_line v) status had took) due_is it.1 })
 
-pub report_ended : ValidIsReport → VerdictIsOne → LeastIsTold → (before after : DiskView) (left : Option (List ℕ)) (bytes : List ℕ) (had took : Side) (closed_run : Option Closed) (status : Status)
+pub report_ended : VerdictIsOne → (before after : DiskView) (left : Option (List ℕ)) (bytes : List ℕ) (had took : Side) (closed_run : Option Closed) (status : Status)
     → WereLeft left bytes → length bytes ≤ 268435456 → IsChecked bytes had took status
     → IsEnded ⊥ (SaysAt (Some (Read Replay)) before after left had took closed_run) (IsAnsweredReport bytes status) status had took
-report_ended law one first before after left bytes had took closed_run status read short it =
+report_ended one before after left bytes had took closed_run status read short it =
     ended_with ⊥ (SaysAt (Some (Read Replay)) before after left had took closed_run) (IsAnsweredReport bytes status) tt tt (verdict_is_due it.found) it.line (of_verdict it.found it.is)
     (λ _ _ or. (λ more. absurd (omega (arith, more, short)), λ few v is. subst (λ s. IsOr s status) (ap verdict_status (one bytes it.found v it.is is)) or))
   where
     of_verdict : (v : Verdict) → IsVerdict bytes v → Adds (verdict_line v) had took → SaysAt (Some (Read Replay)) before after left had took closed_run (verdict_status v)
-    of_verdict (verdict.Valid count) is adds = record { count = count; report = of_left (λ it. IsReport it count) left bytes read ((law bytes count).0 is); wrote = adds.0 }
+    of_verdict (verdict.Valid count) is adds = record { count = count; report = of_left (λ it. IsReport it count) left bytes read is; wrote = adds.0 }
     of_verdict (verdict.Invalid number kind) is adds = (
       refl,
       record {
         line = number;
         kind = kind;
         first = of_left (λ it. IsVerdict it (verdict.Invalid number kind)) left bytes read is;
-        least = of_left (λ it. IsLeastWrong it number) left bytes read (first bytes number kind is);
+        least = of_left (λ it. IsLeastWrong it number) left bytes read is.least;
         no_report = of_left (λ it. (count : ℕ) → IsReport it count → ⊥) left bytes read
-            (λ count report. let wrong : verdict.Invalid number kind ≡ verdict.Valid count = one bytes (verdict.Invalid number kind) (verdict.Valid count) is ((law bytes count).1 report) in cc);
+            (λ count report. let wrong : verdict.Invalid number kind ≡ verdict.Valid count = one bytes (verdict.Invalid number kind) (verdict.Valid count) is report in cc);
         wrote = adds.0;
       },
     )

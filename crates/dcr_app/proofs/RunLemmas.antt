@@ -118,17 +118,21 @@ pub report_of_run : (case : Case) (closed : Closed) (most : ℕ) → IsCase case
     → IsReport (report_text case.nested case.cover closed.opening closed.history.entries) (length closed.history.entries)
 report_of_run case closed most is run few sessions entries =
     record {
-      nest = case.nested;
-      cover = case.cover;
-      opening = closed.opening;
+      setting = record {
+        nest = case.nested;
+        cover = case.cover;
+        opening = closed.opening;
+        accepted_graph = is.accepted_graph;
+        accepted_cover = is.accepted_cover;
+        room = subst (λ (G : Rules). HasRoom G.atoms closed.opening) is.flat.related run.room;
+      };
       history = closed.history.entries;
-      accepted_graph = is.accepted_graph;
-      accepted_cover = is.accepted_cover;
-      room = subst (λ (G : Rules). HasRoom G.atoms closed.opening) is.flat.related run.room;
-      legal = subst (λ (G : Rules). IsLegal G case.cover.owned closed.opening closed.history.entries) is.flat.related run.legal;
-      most_entries = entries;
-      sessions = All-weaker (λ (entry : Entry). entry.session < most) (λ (entry : Entry). entry.session < 1024)
-          (λ entry below. omega (arith, below, few)) closed.history.entries sessions;
+      run = record {
+        legal = subst (λ (G : Rules). IsLegal G case.cover.owned closed.opening closed.history.entries) is.flat.related run.legal;
+        most = entries;
+        sessions = All-weaker (λ (entry : Entry). entry.session < most) (λ (entry : Entry). entry.session < 1024)
+            (λ entry below. omega (arith, below, few)) closed.history.entries sessions;
+      };
       text = refl;
       counted = refl;
     }

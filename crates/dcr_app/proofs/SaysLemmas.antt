@@ -14,7 +14,7 @@ use Rattle.dcr_app.specs.Telling.{IsServing}
 use Rattle.dcr_app.specs.declared.command.Command.{Command}
 use Rattle.dcr_app.specs.declared.command.Command.TheVariants.{Load, Read}
 use Rattle.dcr_app.specs.declared.command.Reading.{Reading}
-use Rattle.dcr_app.specs.declared.command.Reading.TheVariants.{Execute, Replay, Nodes, Conform, Adapt}
+use Rattle.dcr_app.specs.declared.command.Reading.TheVariants.{Execute, Replay, Nodes, Conform, Adapt, Part}
 
 module _ (command : Option Command) (before after : DiskView) (left : Option (List ℕ)) (had took : Side) (closed_run : Option Closed) where
   -- what is said with `Done` of a report, of a verdict and of several reports
@@ -44,6 +44,7 @@ module _ (command : Option Command) (before after : DiskView) (left : Option (Li
   reports_by (Some (Read Replay)) it reports = elim reports [ ]
   reports_by (Some (Read Conform)) it reports = elim reports [ ]
   reports_by (Some (Read Adapt)) it reports = elim reports [ ]
+  reports_by (Some (Read (Part site))) it reports = elim reports [ ]
 
   pub says_all : (status : Status) → SaysAt status → Says command before after left had took closed_run status
   says_all status it = (

@@ -46,6 +46,7 @@ use Rattle.dcr_app.specs.Loaded.{AnswersLoad}
 use Rattle.dcr_app.specs.Logged.{InputRefusal, IsAnsweredLog, IsInputRefused, TellsLog, input_line}
 use Rattle.dcr_app.specs.Command.{IsWay}
 use Rattle.dcr_app.specs.Outside.{IsStarved, LeavesInput, WereLeft, Wrote, limit_in, most_bytes}
+use Rattle.dcr_app.specs.Parted.{EndsPart, RefusesPart, TellsPart}
 use Rattle.dcr_app.specs.Refusal.{case_line, refusal_line}
 use Rattle.dcr_app.specs.Stored.{KeepsRun, RefusesTape, ShowsCause, tape_line}
 use Rattle.dcr_app.specs.Telling.{IsServing, Telling, told_by}
@@ -57,7 +58,7 @@ use Rattle.dcr_app.specs.declared.app.Task.TheVariants as task
 use Rattle.dcr_app.specs.declared.command.Command.{Command}
 use Rattle.dcr_app.specs.declared.command.Command.TheVariants.{Load, Read}
 use Rattle.dcr_app.specs.declared.command.Reading.{Reading}
-use Rattle.dcr_app.specs.declared.command.Reading.TheVariants.{Execute, Replay, Nodes, Conform, Adapt}
+use Rattle.dcr_app.specs.declared.command.Reading.TheVariants.{Execute, Replay, Nodes, Conform, Adapt, Part}
 use Rattle.dcr_app.specs.declared.command.Way.{Way}
 use Rattle.dcr_app.specs.declared.command.Way.TheVariants.{Run, Serve}
 
@@ -68,6 +69,7 @@ abbrev pub RefusesBytes : Reading → List ℕ → List ℕ → Type 0
 RefusesBytes Replay bytes line = ⊥
 RefusesBytes Conform bytes line = (why : InputRefusal) × IsInputRefused bytes why × (line ≡ input_line why)
 RefusesBytes Adapt bytes line = (why : StageStop) × (stages_in bytes ≡ Err why) × (why ≢ stage.NoMemory) × (line ≡ stage_line why)
+RefusesBytes (Part site) bytes line = RefusesPart site bytes line
 RefusesBytes reading bytes line = (why : AcceptStop) × (case_accepted bytes ≡ Err why) × HadMemory why × (line ≡ refusal_line why)
 
 -- the bytes are refused, and the line of the first refusal was due
@@ -180,13 +182,15 @@ abbrev pub IsUntold : Option Closed → Option WorldState → Type 0
 IsUntold closed_run world = (closed_run ≡ None) × (world ≡ None)
 
 -- What is told where the bytes of an input are not refused: by a case that is executed what `OfCase` says of it; of a report its verdict; of a
--- case with a log behind it how each trace is judged; of several cases the reports of their runs, each of which goes on from the one before.
+-- case with a log behind it how each trace is judged; of several cases the reports of their runs, each of which goes on from the one before;
+-- of a case and the name of a site that site's part.
 abbrev pub TellsBytes : (Way → Bool → List ℕ → Type 0) → Reading → List ℕ → Side → Side → Status → Option Closed → Option WorldState → Type 0
 TellsBytes OfCase (Execute way store) bytes had took status closed_run world = (world ≡ None) × OfCase way store bytes
 TellsBytes OfCase Replay bytes had took status closed_run world = IsUntold closed_run world × IsChecked bytes had took status
 TellsBytes OfCase (Nodes number) bytes had took status closed_run world = TellsNodes bytes had took status closed_run world
 TellsBytes OfCase Conform bytes had took status closed_run world = IsUntold closed_run world × TellsLog bytes had took status
 TellsBytes OfCase Adapt bytes had took status closed_run world = (world ≡ None) × TellsStages bytes had took status closed_run
+TellsBytes OfCase (Part site) bytes had took status closed_run world = IsUntold closed_run world × TellsPart site bytes had took status
 
 -- What comes of the bytes of an input: memory ran out before anything was written; they are refused; or this is told.
 pub data FromBytes (reading : Reading) (bytes : List ℕ) (had took : Side) (status : Status) (IsNone IsTold : Type 0) : Type 0 where
@@ -319,6 +323,7 @@ IsAnswered Replay disk bytes status = IsAnsweredReport bytes status
 IsAnswered (Nodes number) disk bytes status = IsAnsweredCase (IsOr Done) false disk (case_accepted bytes) status
 IsAnswered Conform disk bytes status = IsAnsweredLog bytes status
 IsAnswered Adapt disk bytes status = IsAnsweredStages bytes status
+IsAnswered (Part site) disk bytes status = EndsPart site (case_accepted bytes) status
 
 -- What the program ends with unless one of these came: a failed read, a failed write, and, where the command calls them, a failed disk
 -- and a failed door.

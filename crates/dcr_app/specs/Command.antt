@@ -6,7 +6,7 @@ use Rattle.dcr_set.specs.Least.{least}
 use Rattle.dcr_app.specs.declared.command.Command.{Command}
 use Rattle.dcr_app.specs.declared.command.Command.TheVariants.{Load, Read}
 use Rattle.dcr_app.specs.declared.command.Reading.{Reading}
-use Rattle.dcr_app.specs.declared.command.Reading.TheVariants.{Execute, Replay, Nodes, Conform, Adapt}
+use Rattle.dcr_app.specs.declared.command.Reading.TheVariants.{Execute, Replay, Nodes, Conform, Adapt, Part}
 use Rattle.dcr_app.specs.declared.command.Way.{Way}
 use Rattle.dcr_app.specs.declared.command.Way.TheVariants.{Run, Serve}
 
@@ -55,6 +55,11 @@ abbrev pub alone : Reading → List (List ℕ) → Option Command
 alone reading [] = Some (Read reading)
 alone reading words = None
 
+-- the word that names a site, and no more
+abbrev pub part_with : List (List ℕ) → Option Command
+part_with (site ∷ []) = Some (Read (Part site))
+part_with words = None
+
 -- the command that these texts spell
 abbrev pub command_spelled : List (List ℕ) → Option Command
 command_spelled [] = None
@@ -65,7 +70,8 @@ command_spelled (word ∷ rest) =
     else (if bytes_eq word (codes "load") then option_map (λ number. Load number) (number_alone rest)
     else (if bytes_eq word (codes "nodes") then option_map (λ number. Read (Nodes number)) (number_alone rest)
     else (if bytes_eq word (codes "conform") then alone Conform rest
-    else (if bytes_eq word (codes "adapt") then alone Adapt rest else None))))))
+    else (if bytes_eq word (codes "adapt") then alone Adapt rest
+    else (if bytes_eq word (codes "part") then part_with rest else None)))))))
 
 abbrev pub command_in : List (String Global) → Option Command
 command_in words = command_spelled (map string_bytes words)

@@ -5,6 +5,7 @@ pub mod Headline
 pub mod Loaded
 pub mod Logged
 pub mod Outside
+pub mod Parted
 pub mod Stored
 pub mod Telling
 pub mod Refusal

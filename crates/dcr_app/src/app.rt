@@ -13,6 +13,7 @@ use crate::apart::apart;
 use crate::command::{Command, Reading, Way, command_of};
 use crate::conform::conform;
 use crate::load::load;
+use crate::part::part;
 use crate::replay::replay;
 use crate::run::execute;
 use crate::say::{refuse, say};
@@ -20,7 +21,7 @@ use dcr_base::{Disk, Door, Gate, Link, ReadStop, Sink, Source, Status, read_all}
 use dcr_engine::ordered_is_told;
 use dcr_journal::Closed;
 use dcr_node::World;
-use dcr_replay::{a_text_has_one_verdict, the_first_wrong_line_is_told, valid_is_report};
+use dcr_replay::a_text_has_one_verdict;
 use dcr_roles::{Accepted, read_accepted, when_each_refusal_comes};
 use dcr_serving::LinkEnd;
 use dcr_tape::{no_cause, one_list};
@@ -68,10 +69,12 @@ pub struct End<B: Door, D> {
 /// report, which is the same for every number. `conform` reads a case file, which is its first line, and an event log behind
 /// it, judges each trace of the log by the plain engine of the whole graph, and writes one line for each in order of first
 /// appearance, and then how many there are. `adapt` reads several cases, one in each line, runs one after the other, each from
-/// where the one before it ended, and writes the report of each. Other words are answered by the line `usage`. A file that is no
+/// where the one before it ended, and writes the report of each. `part` reads a case file, and writes the part that the site of a name
+/// has of it (`dcr_part`). Other words are answered by the line `usage`. A file that is no
 /// case, or whose policy fails or denies a call of its sessions, and an input of more than 16,777,216 bytes, or a report of more
 /// than 268,435,456, is refused by one line that tells why, and so is a log with a bad record, a case that leaves out an event
-/// of the one before, and a disk that isn't empty and isn't a tape of the case that can be gone on from.
+/// of the one before, a name that no site of the case has, and a disk that isn't empty and isn't a tape of the case that can be gone on
+/// from.
 ///
 /// `answers` is what comes of each command, and `says` what each status says. `ends` is what the program ends with where nothing
 /// fails: `Done`, or what the input or the tape is refused with, or `NoMemory`, which may come in the place of any other answer
@@ -121,9 +124,7 @@ pub fn dcr<
     ordered_is_told();
     one_list();
     no_cause();
-    valid_is_report();
     a_text_has_one_verdict();
-    the_first_wrong_line_is_told();
     answer(rt, alloc, words, input, output, door, disk, gate)
 }
 
@@ -202,7 +203,7 @@ fn task_of<I: Source, O: Sink, D: Disk + Send, G: Gate + Drop + Sync, R: Threads
             (Task::Answered(answer), disk)
         }
         Some(Command::Read { reading }) => {
-            read_input(rt, alloc, reading, input, output, disk, gate)
+            read_input(rt, alloc, &reading, input, output, disk, gate)
         }
     }
 }
@@ -211,14 +212,14 @@ fn task_of<I: Source, O: Sink, D: Disk + Send, G: Gate + Drop + Sync, R: Threads
 fn read_input<I: Source, O: Sink, D: Disk + Send, G: Gate + Drop + Sync, R: Threads + Wait + Sync>(
     rt: &R,
     alloc: Global,
-    reading: Reading,
+    reading: &Reading<'_>,
     input: &mut I,
     output: &mut O,
     disk: D,
     gate: &G,
 ) -> (Task, D)
-    requires numbers { HasNumbers (Read reading) }
-    ensures task { IsTask (Some (Read reading)) (I.gives input.old) (I.gives input.new)
+    requires numbers { HasNumbers (Read reading.now) }
+    ensures task { IsTask (Some (Read reading.now)) (I.gives input.old) (I.gives input.new)
         (I.has_ended input.new) (O.takes output.old) (O.takes output.new) result.0 }
     ensures disk { result.1 ≡ disk }
 {
@@ -243,8 +244,8 @@ fn unread<O: Sink>(stop: ReadStop, output: &mut O) -> Status
 }
 
 // The most bytes of an input.
-fn limit_of(reading: Reading) -> usize
-    ensures { result ≡ most_bytes reading }
+fn limit_of(reading: &Reading<'_>) -> usize
+    ensures { result ≡ most_bytes reading.now }
 {
     match reading {
         Reading::Replay => MOST_REPORT,
@@ -256,25 +257,25 @@ fn limit_of(reading: Reading) -> usize
 fn task_of_bytes<O: Sink, D: Disk + Send, G: Gate + Drop + Sync, R: Threads + Wait + Sync>(
     rt: &R,
     alloc: Global,
-    reading: Reading,
+    reading: &Reading<'_>,
     bytes: &[u8],
     output: &mut O,
     disk: D,
     gate: &G,
 ) -> (Task, D)
-    requires numbers { HasNumbers (Read reading) }
-    requires few { length bytes.now ≤ most_bytes reading }
-    ensures task { IsTaskOf reading bytes.now (O.takes output.old) (O.takes output.new) result.0 }
+    requires numbers { HasNumbers (Read reading.now) }
+    requires few { length bytes.now ≤ most_bytes reading.now }
+    ensures task { IsTaskOf reading.now bytes.now (O.takes output.old) (O.takes output.new) result.0 }
     ensures disk { result.1 ≡ disk }
 {
     match reading {
         Reading::Execute { way, store } => match read_accepted(alloc, bytes) {
-            Ok(accepted) => (Task::Execute(way, store, accepted), disk),
+            Ok(accepted) => (Task::Execute(*way, *store, accepted), disk),
             Err(stop) => (Task::Answered(refuse(alloc, output, &stop)), disk),
         },
         Reading::Replay => (Task::Answered(replay(alloc, bytes, output)), disk),
         Reading::Nodes { number } => (
-            Task::Answered(apart(rt, alloc, number, bytes, output)),
+            Task::Answered(apart(rt, alloc, *number, bytes, output)),
             disk,
         ),
         Reading::Conform => (Task::Answered(conform(rt, alloc, bytes, output)), disk),
@@ -282,5 +283,9 @@ fn task_of_bytes<O: Sink, D: Disk + Send, G: Gate + Drop + Sync, R: Threads + Wa
             let (answer, disk) = adapt(rt, alloc, bytes, output, disk, gate);
             (Task::Answered(answer), disk)
         }
+        Reading::Part { site } => (
+            Task::Answered(part(alloc, site.text(), bytes, output)),
+            disk,
+        ),
     }
 }

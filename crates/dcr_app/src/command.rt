@@ -1,20 +1,21 @@
 ghost use Rattle.std.specs.Prelude.{◌≡◌, map, string_bytes, Some, None, MatchOption};
-ghost use Rattle.dcr_app.specs.Command.{alone, command_in, executed, number_alone, number_behind, number_in, run_with, serve_with, store_in, workers_in};
+ghost use Rattle.dcr_app.specs.Command.{alone, command_in, executed, number_alone, number_behind, number_in, part_with, run_with, serve_with, store_in, workers_in};
 
+use crate::word::SiteWord;
 use dcr_text::{decimal_is_one_number, read_decimal};
 
 /// What the program is asked for.
-#[derive(Clone, Copy)]
-pub enum Command {
+#[derive(Drop)]
+pub enum Command<'w> {
     /// Run the case that the number spells, by one worker, and write a line about the run.
     Load { number: u32 },
     /// Answer the input.
-    Read { reading: Reading },
+    Read { reading: Reading<'w> },
 }
 
 /// How an input is answered.
-#[derive(Clone, Copy)]
-pub enum Reading {
+#[derive(Drop)]
+pub enum Reading<'w> {
     /// Execute a case in this way, and write its report; its executions are kept in a store, or not.
     Execute { way: Way, store: bool },
     /// Check a report.
@@ -25,6 +26,8 @@ pub enum Reading {
     Conform,
     /// Run several cases one after the other, each from where the one before it ended, and write their reports.
     Adapt,
+    /// Write the part that the site which this word names has of a case.
+    Part { site: SiteWord<'w> },
 }
 
 /// How the sessions of a case are executed.
@@ -42,7 +45,7 @@ const MAX_WORKERS: u32 = 64;
 const MAX_SESSIONS: u32 = 1_024;
 
 /// The command that the words spell. None exactly where they spell none.
-pub(crate) fn command_of(words: &[String]) -> Option<Command>
+pub(crate) fn command_of(words: &[String]) -> Option<Command<'_>>
     ensures { result ≡ command_in words.now }
 {
     let (word, rest) = words.split_first()?;
@@ -62,18 +65,34 @@ pub(crate) fn command_of(words: &[String]) -> Option<Command>
         }
         "conform" => alone(Reading::Conform, rest),
         "adapt" => alone(Reading::Adapt, rest),
+        "part" => part_of(rest),
         _ => None,
     }
 }
 
 // What nothing may stand behind.
-fn alone(reading: Reading, words: &[String]) -> Option<Command>
-    ensures { result ≡ alone reading (map string_bytes words.now) }
+fn alone<'w>(reading: Reading<'w>, words: &'w [String]) -> Option<Command<'w>>
+    ensures { result ≡ alone reading.entry (map string_bytes words.now) }
 {
     if words.is_empty() {
         Some(Command::Read { reading })
     } else {
         None
+    }
+}
+
+// The part of the site that the word behind `part` names, where nothing else stands there.
+fn part_of(words: &[String]) -> Option<Command<'_>>
+    ensures { result ≡ part_with (map string_bytes words.now) }
+{
+    match words {
+        [site] => {
+            let site = SiteWord::new(site.as_str());
+            Some(Command::Read {
+                reading: Reading::Part { site },
+            })
+        }
+        _ => None,
     }
 }
 
@@ -88,7 +107,7 @@ fn number_alone(words: &[String]) -> Option<u32>
 }
 
 // The run that the words behind `run` ask for.
-fn run_of(words: &[String]) -> Option<Command>
+fn run_of(words: &[String]) -> Option<Command<'_>>
     ensures { result ≡ run_with (map string_bytes words.now) }
 {
     let (workers, rest) = workers_of(words)?;
@@ -111,7 +130,7 @@ fn workers_of(words: &[String]) -> Option<(u32, &[String])>
 }
 
 // The serving that the words behind `serve` ask for.
-fn serve_of(words: &[String]) -> Option<Command>
+fn serve_of(words: &[String]) -> Option<Command<'_>>
     ensures { result ≡ serve_with (map string_bytes words.now) }
 {
     let (sessions, rest) = number_behind(words, "--sessions", MAX_SESSIONS)?;
@@ -153,7 +172,7 @@ fn store_of(words: &[String]) -> Option<bool>
 }
 
 // The execution of a case in a way, where the words behind that spell whether there is a store.
-fn executed(way: Way, store: Option<bool>) -> Option<Command>
+fn executed<'w>(way: Way, store: Option<bool>) -> Option<Command<'w>>
     ensures { result ≡ executed way store }
 {
     let store = store?;

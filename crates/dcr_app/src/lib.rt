@@ -1,6 +1,6 @@
 //! The top call: a case file in, its report out, with its own sessions or with others over links; a report in, its verdict
 //! out; or a case and an event log in, how each trace is judged out; or several cases in, each of which goes on from the one before,
-//! and their reports out.
+//! and their reports out; or a case in, and the part of one of its sites out.
 #![tactic(auto)]
 
 mod adapt;
@@ -12,12 +12,14 @@ mod command;
 mod conform;
 mod lines;
 mod load;
+mod part;
 mod refusal;
 mod replay;
 mod report;
 mod run;
 mod say;
 mod stored;
+mod word;
 
 pub use app::{End, dcr};
 pub use dcr_base::Status;

@@ -17,6 +17,15 @@ use dcr_turn::{FrontRow, Pass};
 use std::slice;
 use std::sync::Wait;
 
+// How a call has ended that took the locks of its sites: what it was told beside its answer, the event where it is an
+// execution that was done, and whether a lock was waited for.
+#[derive(Drop)]
+struct Ended {
+    told: Result<(), Halt>,
+    done: Option<EventId>,
+    waited: bool,
+}
+
 impl<D: Disk, G: Gate, N: StoreName<D>> Cluster<D, G, N> {
     ghost use Rattle.std.specs.Prelude.{◌<◌};
 
@@ -86,9 +95,14 @@ impl<D: Disk, G: Gate, N: StoreName<D>> Cluster<D, G, N> {
             }
         }
         unask(call, needed, found);
-        let mut ended = Ok(());
-        self.gather(rt, pass, fronts, call, needed, found, &mut ended, waited);
-        ended
+        let mut ended = Ended {
+            told: Ok(()),
+            done: None,
+            waited: *waited,
+        };
+        self.gather(rt, pass, fronts, call, needed, found, &mut ended);
+        *waited = ended.waited;
+        ended.told
     }
 
     // The sites whose locks the call takes.
@@ -143,7 +157,8 @@ impl<D: Disk, G: Gate, N: StoreName<D>> Cluster<D, G, N> {
 
     // Takes the locks of the sites that are left, one after the other, and asks each; makes the call; and gives the
     // locks back, the last one first. What was found stands in one place on the way down, and what the call is told on
-    // the way back, and so does how it has ended, so that neither is handed from one lock to the next.
+    // the way back, and so does how it has ended, so that neither is handed from one lock to the next, and no site finds
+    // out again whether it has something to hear.
     fn gather<R: Wait>(
         &self,
         rt: &R,
@@ -152,26 +167,30 @@ impl<D: Disk, G: Gate, N: StoreName<D>> Cluster<D, G, N> {
         call: &Call,
         left: &[SiteId],
         found: &mut Outcome,
-        ended: &mut Result<(), Halt>,
-        waited: &mut bool,
+        ended: &mut Ended,
     )
         requires call { IsCall N.cluster call.now }
         requires sites { sites_of fronts.old ++ left.now ≡ sites_for N.cluster N.turn call.now }
         requires within { All (λ i. i < length N.cluster.owned) left.now }
         requires found { Found N.cluster call.now fronts.old found.old }
-        ensures { Made N.cluster N.first N.capacity N.turn pass.old pass.new fronts.old fronts.new call.now (ending found.new ended.new) }
+        ensures made { Made N.cluster N.first N.capacity N.turn pass.old pass.new fronts.old fronts.new call.now (ending found.new ended.new.told) }
+        ensures done { ended.new.done ≡ done_by call.now (ending found.new ended.new.told) }
     {
         let Some((first, rest)) = left.split_first() else {
-            *ended = self.commit(rt, pass, fronts, call, found, waited);
+            ended.told = self.commit(rt, pass, fronts, call, found, &mut ended.waited);
+            ended.done = done_by(call, found, &ended.told);
             return;
         };
-        let (grip, mut cell) = self.cells.lock_noting(rt, first.0, waited).split();
+        let (grip, mut cell) = self
+            .cells
+            .lock_noting(rt, first.0, &mut ended.waited)
+            .split();
         cell.ask(call, found);
         let Cell { mut site, front } = cell;
         self.turn.put_on(fronts, front);
-        self.gather(rt, pass, fronts, call, rest, found, ended, waited);
+        self.gather(rt, pass, fronts, call, rest, found, ended);
         let front = self.turn.take_off(fronts, *first, pass);
-        if let Some(e) = done_by(call, found, ended) {
+        if let Some(e) = ended.done {
             site.apply(e);
         }
         grip.join(Cell { site, front }).unlock();

@@ -1,9 +1,10 @@
 // Builders of graphs of four atoms, of sets of them, of a marking and of a cover, for the worked rows.
 ghost use Rattle.std.specs.Prelude.{◌≡◌, length, IfOk};
+ghost use Rattle.std.specs.List.{All};
 ghost use Rattle.dcr_graph.specs.Pairs.{AreInRange};
 ghost use Rattle.dcr_graph.specs.Projection.{HasRoom};
 
-use dcr_graph::{Graph, GraphStop, Kind, Label, Marking, Name};
+use dcr_graph::{Graph, GraphStop, Kind, Label, Marking, Name, SiteMark};
 use dcr_proj::Cover;
 use dcr_set::{EventId, EventSet};
 use std::alloc::Global;
@@ -111,4 +112,31 @@ pub(crate) fn members(set: &EventSet) -> u8 {
         }
     }
     bits
+}
+
+// The doctor, who owns pm and s, and the nurse, who owns gm and dt, of a graph of the four.
+pub(crate) fn hospital_cover(alloc: Global, _graph: &Graph) -> Result<Cover, Fail>
+    requires { length _graph.now.names ≡ 4 }
+    ensures { IfOk result (λ cover. All (λ set. length set ≡ length _graph.now.names) cover.owned) }
+{
+    let doctor = Name::read(alloc, "doctor")?;
+    let nurse = Name::read(alloc, "nurse")?;
+    let names = Vec::from_array(alloc, [doctor, nurse])?;
+    let mut first = EventSet::new(4);
+    first.insert(EventId(0));
+    first.insert(EventId(1));
+    let mut second = EventSet::new(4);
+    second.insert(EventId(2));
+    second.insert(EventId(3));
+    let owned = Vec::from_array(alloc, [first, second])?;
+    Ok(Cover::new(names, owned))
+}
+
+// Which of the four atoms are executed, pending and included.
+pub(crate) fn sets_of(mark: &SiteMark) -> [u8; 3] {
+    [
+        members(&mark.executed),
+        members(&mark.pending),
+        members(&mark.included),
+    ]
 }

@@ -1,7 +1,9 @@
-//! Worked rows of graphs, nests, projections, the engines, journals, lines, messages and event logs that no whole case or
-//! report shows.
+//! Worked rows of graphs, nests, projections, the engines, journals, lines, messages, nodes and event logs that no whole case
+//! or report shows.
 #![tactic(auto)]
 
+#[cfg(test)]
+mod asked;
 #[cfg(test)]
 mod build;
 #[cfg(test)]
@@ -21,9 +23,15 @@ mod names;
 #[cfg(test)]
 mod nest;
 #[cfg(test)]
+mod nodes;
+#[cfg(test)]
+mod parts;
+#[cfg(test)]
 mod proj;
 #[cfg(test)]
 mod same;
+#[cfg(test)]
+mod steps;
 #[cfg(test)]
 mod stops;
 #[cfg(test)]

@@ -1,5 +1,5 @@
 -- The parts of a journal node as an entry comes: its streams, and how many entries each session has.
-use Rattle.std.proofs.Common.{◌≡◌, ℕ, ◌+◌, ◌<◌, ◌≤◌, Bool, true, false, cond, eqb, List, [], ◌∷◌, ◌++◌, length, get_or, set, take, Some, inl, inr, refl, sym, ap, ◌∙◌, arith, length-set}
+use Rattle.std.proofs.Common.{◌≡◌, ℕ, ◌+◌, ◌<◌, ◌≤◌, Bool, true, false, cond, eqb, List, [], ◌∷◌, ◌++◌, length, get_or, set, take, Some, None, inl, inr, refl, sym, ap, ◌∙◌, arith, length-set}
 use Rattle.std.specs.Prelude.{slice_get}
 use Rattle.std.proofs.lemmas.Bool.{cases_eq, eq-eqb, ne_eqb}
 use Rattle.std.proofs.lemmas.List.{append-nil, length-replicate, get_or-replicate, get_or-set_same, get_or-set_other}
@@ -12,15 +12,17 @@ use Rattle.dcr_journal.specs.Answer.{outcome_decided}
 use Rattle.dcr_journal.specs.Run.{event_done, made_by, touches}
 use Rattle.dcr_journal.specs.declared.call.Call.TheVariants.{Exec}
 use Rattle.dcr_journal.specs.declared.call.Entry.{Entry}
+use Rattle.dcr_journal.specs.declared.call.Outcome.{Outcome}
 use Rattle.dcr_run.proofs.HearingLemmas.{HeardBy, heard_by_all}
 use Rattle.dcr_proj.specs.NetworkValue.{participants_of}
 use Rattle.dcr_site.specs.declared.site.Decision.{Decision}
 use Rattle.dcr_site.specs.declared.site.Decision.TheVariants.{NotHere, Blocked, Enabled}
 use Rattle.dcr_node.specs.Heard.{heard}
-use Rattle.dcr_node.specs.JournalState.{JournalState, stream_of, entry_of, with_entry}
+use Rattle.dcr_node.specs.JournalState.{JournalState, execution, stream_of, entry_of, with_entry}
 use Rattle.dcr_node.specs.JournalNodeModel.{IsStream}
 use Rattle.dcr_node.specs.StreamValue.{StreamValue}
 use Rattle.dcr_node.specs.Streams.{new_streams, HaveRoom, told_of, IsLonger, AreTold}
+use Rattle.dcr_node.specs.declared.journal_node.Execution.{Execution}
 use Rattle.dcr_node.specs.declared.journal_node.Proposal.{Proposal}
 use Rattle.dcr_node.proofs.HeardLemmas.{heard_of, heard_push, length-heard}
 
@@ -43,8 +45,8 @@ abbrev pub AreStreams : JournalState → List StreamValue → Type 0
 AreStreams j streams = (i : ℕ) (stream : StreamValue) → slice_get streams i ≡ Some stream → IsStream j i stream
 
 -- and so it stays as an entry comes and its streams are told
-pub streams_more : (j : JournalState) (p : Proposal) (d : Decision) (before after : List StreamValue) → AreStreams j before → AreTold j.alphabets p.event d before after
-    → AreStreams (with_entry j (entry_of j p d)) after
+pub streams_more : (j : JournalState) (p : Execution) (d : Decision) (before after : List StreamValue) → AreStreams j before → AreTold j.alphabets p.event d before after
+    → AreStreams (with_entry j (entry_of j (execution p.session p.site p.event) (outcome_decided d))) after
 streams_more j p d before after are told = λ i new is.
     let was = told.each i new is in
     let old = are i was.0 was.1 in
@@ -54,8 +56,21 @@ streams_more j p d before after are told = λ i new is.
           was.2.events
           ∙ ap (λ es. es ++ told_of A p.event d) old.events
           ∙ ap (λ es. stream_of j i ++ es) (sym (told_is_heard A p.site p.event d))
-          ∙ sym (heard_push (has A) j.history.entries (entry_of j p d));
+          ∙ sym (heard_push (has A) j.history.entries (entry_of j (execution p.session p.site p.event) (outcome_decided d)));
       room = was.2.room ∙ old.room;
+    }
+
+-- an entry that is no execution done is told to no stream
+pub streams_same : (j : JournalState) (p : Proposal) (outcome : Outcome) (streams : List StreamValue) → event_done p.call outcome ≡ None → AreStreams j streams
+    → AreStreams (with_entry j (entry_of j p outcome)) streams
+streams_same j p outcome streams quiet are = λ i stream is.
+    let was = are i stream is in
+    let A = has (row j.alphabets i) in
+    record {
+      events =
+          was.events
+          ∙ sym (heard_push A j.history.entries (entry_of j p outcome) ∙ ap (λ o. stream_of j i ++ heard_of A o) quiet ∙ append-nil (stream_of j i));
+      room = was.room;
     }
 
 pub streams_new : (j : JournalState) (sites : ℕ) → j.history.entries ≡ [] → AreStreams j (new_streams sites j.history.capacity)

@@ -1,6 +1,7 @@
 pub mod HeardLemmas
 pub mod TruthLemmas
 pub mod RightLemmas
+pub mod AnsweredLemmas
 pub mod KeptLemmas
 pub mod BeginningLemmas
 pub mod SiteNodeLemmas
@@ -8,3 +9,4 @@ pub mod JournalLemmas
 pub mod PartsLemmas
 pub mod WorldLemmas
 pub mod LawLemmas
+pub mod AskingLemmas

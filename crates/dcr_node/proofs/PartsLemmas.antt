@@ -1,7 +1,7 @@
 -- What the parts of a right world owe each other: a message that was sent may be taken by its node.
-use Rattle.std.proofs.Common.{◌≡◌, ℕ, ◌<◌, ◌≤◌, Bool, true, false, cond, List, [], ◌∷◌, length, get_or, take, Option, Some, None, inl, inr, refl, sym, ap, subst, ◌∙◌, arith}
+use Rattle.std.proofs.Common.{◌≡◌, ℕ, ◌<◌, ◌≤◌, Bool, true, false, ◌&&◌, cond, List, [], ◌∷◌, length, get_or, take, Option, Some, None, inl, inr, refl, sym, ap, subst, ◌∙◌, arith}
 use Rattle.std.specs.Prelude.{slice_get}
-use Rattle.std.specs.Option.{option_map, option_or}
+use Rattle.std.specs.Option.{option_map, option_or, IfSome}
 use Rattle.std.proofs.lemmas.Bool.{cases_lt, false≢true}
 use Rattle.std.proofs.lemmas.List.Elements.{All-get_or, filter_passes}
 use Rattle.std.proofs.lemmas.List.Sums.{count_by-le-length}
@@ -10,28 +10,38 @@ use Rattle.std.proofs.lemmas.Option.{slice_get_within, slice_get-get_or, get_or_
 use Rattle.dcr_set.specs.EventSet.{Set, has}
 use Rattle.dcr_set.specs.Least.{least}
 use Rattle.dcr_set.proofs.LeastLemmas.{least-some}
-use Rattle.dcr_graph.specs.Cause.{cause, is_open_condition, is_pending_milestone}
+use Rattle.dcr_set.proofs.SetLemmas.{length-those}
+use Rattle.dcr_graph.specs.Cause.{cause, is_enabled_in, is_open_condition, is_pending_milestone}
+use Rattle.dcr_graph.specs.Projection.{tracks_executed, tracks_included, tracks_pending}
 use Rattle.dcr_graph.specs.Rows.{row}
 use Rattle.dcr_graph.specs.Rules.{Rules}
 use Rattle.dcr_graph.specs.declared.kind.Cause.TheVariants.{Excluded, Condition, Milestone}
 use Rattle.dcr_graph.specs.declared.marking.Marking.{Marking}
-use Rattle.dcr_journal.specs.Run.{touches}
+use Rattle.dcr_journal.specs.Run.{after, touches}
 use Rattle.dcr_journal.specs.declared.call.Call.TheVariants.{Exec}
-use Rattle.dcr_site.specs.Decision.{by_cause, decision}
+use Rattle.dcr_site.specs.Decision.{by_cause, decision, owned_waits}
+use Rattle.dcr_site.specs.Seen.{StandsAt}
 use Rattle.dcr_site.specs.declared.site.Decision.TheVariants.{NotHere}
+use Rattle.dcr_wire.specs.declared.answer.Answer.{Answer}
 use Rattle.dcr_wire.specs.declared.message.Message.{Message}
 use Rattle.dcr_wire.specs.declared.message.Message.TheVariants.{Ask, Vote, Apply}
+use Rattle.dcr_wire.specs.declared.question.Asked.{Asked}
+use Rattle.dcr_wire.specs.declared.question.Asked.TheVariants.{Marks, Can, Waits}
+use Rattle.dcr_wire.specs.declared.question.Question.{Question}
 use Rattle.dcr_node.specs.Heard.{done_events, stepped_by_all}
-use Rattle.dcr_node.specs.SiteState.{SiteState, replied, SiteMayTake}
-use Rattle.dcr_node.specs.JournalState.{JournalState, stream_of, IsWithin, JournalMayTake}
-use Rattle.dcr_node.specs.WorldState.{WorldState}
-use Rattle.dcr_node.specs.Machine.{sending, told_site, happens}
+use Rattle.dcr_node.specs.SiteState.{SiteState, replied, answered, SiteMayTake}
+use Rattle.dcr_node.specs.JournalState.{JournalState, stream_of, IsWithin, IsOver, JournalMayTake, JournalMayHear}
+use Rattle.dcr_node.specs.WorldState.{WorldState, IsCallEvent}
+use Rattle.dcr_node.specs.Machine.{sending, told_site, happens, answering, asked_at, question_delivered, calls}
 use Rattle.dcr_node.specs.Parts.{world_with, Happened, Reached}
-use Rattle.dcr_node.specs.Right.{alphabet_of, IsTrueAt, IsRight}
+use Rattle.dcr_node.specs.Right.{alphabet_of, IsTrueAt, IsAskedAt, graph_tells, IsAnswerAt, IsRight}
+use Rattle.dcr_node.specs.declared.event.CallEvent.{CallEvent}
+use Rattle.dcr_node.specs.declared.event.CallEvent.TheVariants.{DeliverQuestion}
 use Rattle.dcr_node.specs.declared.event.WorldEvent.{WorldEvent}
 use Rattle.dcr_node.proofs.HeardLemmas.{length-heard}
 use Rattle.dcr_node.proofs.TruthLemmas.{asked_in_range}
-use Rattle.dcr_node.proofs.RightLemmas.{right_alphabet, right_atoms}
+use Rattle.dcr_node.proofs.RightLemmas.{right_alphabet, right_atoms, right_many}
+use Rattle.dcr_node.proofs.AnsweredLemmas.{right_call}
 
 -- ---- a decision's cause is of an atom
 
@@ -128,35 +138,80 @@ module _ (G : Rules) (C : List Set) (M : Marking) (w : WorldState) (right : IsRi
 
   -- a message that reached a site
   pub reached_is : (site : ℕ) (message : Message) (new_sites : List SiteState) (answer : Option Message) → site < length w.sites → Reached w.sites site message new_sites answer
-      → told_site G C w site message (slice_get w.sites site) ≡ sending (record { opening = w.opening; journal = w.journal; sites = new_sites; sent = w.sent }) answer
+      → told_site G C w site message (slice_get w.sites site) ≡ sending (record w { sites = new_sites }) answer
   reached_is site message new_sites answer below reached = by_node (slice_get w.sites site) refl
     where
       by_node : (o : Option SiteState) → slice_get w.sites site ≡ o
-          → told_site G C w site message o ≡ sending (record { opening = w.opening; journal = w.journal; sites = new_sites; sent = w.sent }) answer
+          → told_site G C w site message o ≡ sending (record w { sites = new_sites }) answer
       by_node None none = absurd (no_site w.sites site below none)
       by_node (Some node) is =
           let at = right.sites site node is in
           let done = reached G (row C site) (stepped_by_all G M (take node.count (stream_of w.journal site))) node is at.stands in
-          let with_sites : List SiteState → WorldState = λ sites. record { opening = w.opening; journal = w.journal; sites = sites; sent = w.sent } in
+          let with_sites : List SiteState → WorldState = λ sites. record w { sites = sites } in
           ap (λ sites. sending (with_sites sites) (replied G (row C site) node message)) (sym done.0)
           ∙ ap (λ o. sending (with_sites new_sites) o) (sym done.1)
 
   -- the world is that of its parts
-  pub parts_are : (sites : List SiteState) (sent : List Message) → sites ≡ w.sites → sent ≡ w.sent → world_with M w.journal sites sent ≡ w
+  pub parts_are : (sites : List SiteState) (sent : List Message) → sites ≡ w.sites → sent ≡ w.sent → world_with M w.journal sites sent w.questions w.answers ≡ w
   parts_are sites sent same_sites same_sent =
-      ap (λ o. world_with o w.journal sites sent) (sym right.opening)
-      ∙ ap (λ s. world_with w.opening w.journal s sent) same_sites
-      ∙ ap (λ s. world_with w.opening w.journal w.sites s) same_sent
+      ap (λ o. world_with o w.journal sites sent w.questions w.answers) (sym right.opening)
+      ∙ ap (λ s. world_with w.opening w.journal s sent w.questions w.answers) same_sites
+      ∙ ap (λ s. world_with w.opening w.journal w.sites s w.questions w.answers) same_sent
 
-  pub parts_right : (sites : List SiteState) (sent : List Message) → sites ≡ w.sites → sent ≡ w.sent → IsRight G C M (world_with M w.journal sites sent)
+  pub parts_right : (sites : List SiteState) (sent : List Message) → sites ≡ w.sites → sent ≡ w.sent → IsRight G C M (world_with M w.journal sites sent w.questions w.answers)
   parts_right sites sent same_sites same_sent = subst (IsRight G C M) (sym (parts_are sites sent same_sites same_sent)) right
 
   -- an event that was made to happen at the parts is the machine's
   pub parts_happened : (event : WorldEvent) (sites new_sites : List SiteState) (sent : List Message) (journal : JournalState) (answer : Option Message)
       → sites ≡ w.sites → sent ≡ w.sent → Happened w.journal sites sent event journal new_sites answer
-      → sending (world_with w.opening journal new_sites w.sent) answer ≡ happens G C w event
+      → sending (world_with w.opening journal new_sites w.sent w.questions w.answers) answer ≡ happens G C w event
   parts_happened event sites new_sites sent journal answer same_sites same_sent happened =
-      ap (λ o. sending (world_with o journal new_sites w.sent) answer) right.opening
-      ∙ ap (λ s. sending (world_with M journal new_sites s) answer) (sym same_sent)
-      ∙ sym (happened G C M (parts_right sites sent same_sites same_sent))
+      ap (λ o. sending (world_with o journal new_sites w.sent w.questions w.answers) answer) right.opening
+      ∙ ap (λ s. sending (world_with M journal new_sites s w.questions w.answers) answer) (sym same_sent)
+      ∙ sym (happened G C M w.questions w.answers (parts_right sites sent same_sites same_sent))
       ∙ ap (λ v. happens G C v event) (parts_are sites sent same_sites same_sent)
+
+-- ---- any call
+
+-- what the graph has for a site is over the atoms
+tells_over : (G : Rules) (S : Set) (N : Marking) (asked : Asked) → IsOver G.atoms (graph_tells G S N asked)
+tells_over G S N Marks = record {
+  executed = length-those G.atoms (λ k. has N.executed k && tracks_executed G S k);
+  pending = length-those G.atoms (λ k. has N.pending k && tracks_pending G S k);
+  included = length-those G.atoms (λ k. has N.included k && tracks_included G S k);
+}
+tells_over G S N Can = length-those G.atoms (is_enabled_in G S N)
+tells_over G S N Waits = by_first (owned_waits G S N) refl
+  where
+    by_first : (o : Option ℕ) → owned_waits G S N ≡ o → IfSome o (λ e. e < G.atoms)
+    by_first None is = tt
+    by_first (Some e) is = (least-some G.atoms (λ a. has S a && (has N.included a && has N.pending a)) e is).below
+
+-- an event of any call that was made to happen keeps a world right
+pub called_right : (G : Rules) (C : List Set) (M : Marking) (w after : WorldState) (event : CallEvent) → IsRight G C M w → IsCallEvent w event → after ≡ calls G C w event → IsRight G C M after
+called_right G C M w after event right may is = subst (IsRight G C M) (sym is) (right_call G C M w right event may)
+
+module _ (G : Rules) (C : List Set) (M : Marking) (w : WorldState) (right : IsRight G C M w) where
+  -- the journal may be handed an answer that was sent
+  pub journal_may_hear : (a : Answer) → IsAnswerAt G C M w.journal a → JournalMayHear w.journal a
+  journal_may_hear a told = (
+    (let below = told.site in let many = right_many G C M w right in omega arith),
+    subst (λ n. IsOver n a.told) (sym (right_atoms G C M w right)) (subst (IsOver G.atoms) (sym told.told) (tells_over G (row C a.site) (after G M (take a.number w.journal.history.entries)) told.asked)),
+  )
+
+  -- the site of a question that was sent is one
+  pub question_site : (q : Question) → IsAskedAt w.journal q → q.site < length w.sites
+  question_site q asked_for = let below = asked_for.site in let many = right_many G C M w right in let room = right.as_many in omega arith
+
+  -- what a site that stands answers is what the machine sends
+  pub question_is : (k : ℕ) (q : Question) (answer : Option Answer) → slice_get w.questions k ≡ Some q
+      → ((G' : Rules) (S : Set) (N : Marking) (node : SiteState) → slice_get w.sites q.site ≡ Some node → StandsAt G' S N node.site → answer ≡ answered G' S node q)
+      → answering w answer ≡ calls G C w (DeliverQuestion k)
+  question_is k q answer found told = by_node (slice_get w.sites q.site) refl ∙ ap (question_delivered G C w) (sym found)
+    where
+      by_node : (o : Option SiteState) → slice_get w.sites q.site ≡ o → answering w answer ≡ asked_at G C w q (slice_get w.sites q.site)
+      by_node None none = absurd (no_site w.sites q.site (question_site q (right.questions k q found)) none)
+      by_node (Some node) is =
+          let at = right.sites q.site node is in
+          ap (answering w) (told G (row C q.site) (stepped_by_all G M (take node.count (stream_of w.journal q.site))) node is at.stands)
+          ∙ ap (asked_at G C w q) (sym is)

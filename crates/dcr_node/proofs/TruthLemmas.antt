@@ -2,10 +2,10 @@
 use Rattle.std.proofs.Common.{◌≡◌, ℕ, ◌+◌, ◌<◌, ◌≤◌, Bool, true, false, cond, List, [], ◌∷◌, ◌++◌, length, get_or, map, take, drop, Option, Some, None, inl, inr, refl, sym, ap, subst, ◌∙◌, arith}
 use Rattle.std.specs.Prelude.{slice_get}
 use Rattle.std.specs.List.{All}
-use Rattle.std.specs.Option.{option_map, option_to_list}
+use Rattle.std.specs.Option.{option_map, option_and_then, option_to_list}
 use Rattle.std.proofs.lemmas.List.{append-nil, get_or_append_left, get_or-map, length-append, length-map, take-append-le, take_at}
 use Rattle.std.proofs.lemmas.List.Elements.{All-map, All-take}
-use Rattle.std.proofs.lemmas.Option.{slice_get_within, slice_get-get_or, get_or_from_slice_get}
+use Rattle.std.proofs.lemmas.Option.{slice_get_within, slice_get-get_or, get_or_from_slice_get, same_Some, none-some}
 use Rattle.std.proofs.Math.Seq.{get_or-append_seam}
 use Rattle.dcr_set.specs.EventSet.{Set, has}
 use Rattle.dcr_set.proofs.ListLemmas.{push_cases}
@@ -19,20 +19,23 @@ use Rattle.dcr_graph.proofs.LocalLaws.{local_cause}
 use Rattle.dcr_journal.specs.Answer.{answer, outcome_of, outcome_decided}
 use Rattle.dcr_journal.specs.Run.{IsInRange, IsSound, after as marking_after}
 use Rattle.dcr_journal.specs.declared.call.Call.{Call}
-use Rattle.dcr_journal.specs.declared.call.Call.TheVariants.{Exec}
+use Rattle.dcr_journal.specs.declared.call.Call.TheVariants.{Exec, Look, Enabled, Accepting}
 use Rattle.dcr_journal.specs.declared.call.Entry.{Entry}
 use Rattle.dcr_journal.specs.declared.call.Outcome.TheVariants as outcome
 use Rattle.dcr_site.specs.Decision.{by_cause, decision}
 use Rattle.dcr_site.specs.Seen.{StandsAt}
 use Rattle.dcr_site.specs.declared.site.Decision.TheVariants.{NotHere}
 use Rattle.dcr_laws.specs.AtSites.{cause_at}
+use Rattle.dcr_wire.specs.declared.answer.Answer.{Answer}
 use Rattle.dcr_wire.specs.declared.message.Message.{Message}
 use Rattle.dcr_wire.specs.declared.message.Message.TheVariants.{Ask, Vote, Apply}
+use Rattle.dcr_wire.specs.declared.question.Question.{Question}
 use Rattle.dcr_node.specs.Heard.{heard, stepped_by_all}
 use Rattle.dcr_node.specs.SiteState.{SiteState, decision_at}
-use Rattle.dcr_node.specs.JournalState.{JournalState, asked_by, stream_of}
+use Rattle.dcr_node.specs.JournalState.{JournalState, asked_by, execution, execution_in, execution_out, stream_of}
 use Rattle.dcr_node.specs.WorldState.{alphabets_over}
-use Rattle.dcr_node.specs.Right.{alphabet_of, asked, IsTrueAt, IsNodeAt, IsOutAt}
+use Rattle.dcr_node.specs.Right.{alphabet_of, asked, IsTrueAt, IsNodeAt, IsOutAt, IsAskedAt, graph_tells, IsAnswerAt}
+use Rattle.dcr_node.specs.declared.journal_node.Execution.{Execution}
 use Rattle.dcr_node.specs.declared.journal_node.Proposal.{Proposal}
 use Rattle.dcr_node.proofs.HeardLemmas.{heard-append, heard_front, heard_marks}
 
@@ -78,11 +81,11 @@ pub asked_within : (j : JournalState) (n : ℕ) (call : Call) → slice_get (ask
 asked_within j n call is = let below : n < length (asked j) = slice_get_within (asked j) n call is in let room = asked_room j in omega arith
 
 -- the call that is out stands behind those of the entries
-pub asked_last : (j : JournalState) (p : Proposal) → j.out ≡ Some p → slice_get (asked j) (length j.history.entries) ≡ Some (Exec p.site p.event)
+pub asked_last : (j : JournalState) (p : Proposal) → j.out ≡ Some p → slice_get (asked j) (length j.history.entries) ≡ Some p.call
 asked_last j p out =
     let calls : List Call = map (λ (entry : Entry). entry.call) j.history.entries in
     ap (λ (o : Option Proposal). slice_get (calls ++ option_to_list (option_map (λ (q : Proposal). (asked_by q).1) o)) (length j.history.entries)) out
-    ∙ slice_get_last calls (Exec p.site p.event) (length j.history.entries) (sym (length-map j.history.entries (λ (entry : Entry). entry.call)))
+    ∙ slice_get_last calls p.call (length j.history.entries) (sym (length-map j.history.entries (λ (entry : Entry). entry.call)))
 
 module _ (before after : JournalState) (grows : Grows before after) where
   -- beginnings stay
@@ -113,6 +116,28 @@ module _ (before after : JournalState) (grows : Grows before after) where
   )
   truth_kept G C M (Apply site index event) true_before =
       ap (λ es. slice_get es index) (stream_grows site) ∙ slice_get_left (stream_of before site) (heard (has (row before.alphabets site)) grows.new_entries) index event true_before
+
+  -- questions and answers stay true
+  more_entries : length before.history.entries ≤ length after.history.entries
+  more_entries = let both = length-append before.history.entries grows.new_entries in let same : length after.history.entries ≡ length (before.history.entries ++ grows.new_entries) = ap (λ J. length J) grows.entries in omega arith
+
+  pub question_kept : (q : Question) → IsAskedAt before q → IsAskedAt after q
+  question_kept q was = record {
+    site = (let many : length after.alphabets ≡ length before.alphabets = ap (λ A. length A) grows.alphabets in let below = was.site in omega arith);
+    number = (let room = more_entries in let below = was.number in omega arith);
+    count =
+        was.count
+        ∙ sym (ap (λ A. length (heard (has (row A q.site)) (take q.number after.history.entries))) grows.alphabets
+        ∙ ap (λ J. length (heard (has (row before.alphabets q.site)) J)) (beginning_kept q.number was.number));
+  }
+
+  pub answer_kept : (G : Rules) (C : List Set) (M : Marking) (a : Answer) → IsAnswerAt G C M before a → IsAnswerAt G C M after a
+  answer_kept G C M a was = record {
+    site = was.site;
+    number = (let room = more_entries in let below = was.number in omega arith);
+    asked = was.asked;
+    told = was.told ∙ ap (λ J. graph_tells G (row C a.site) (marking_after G M J) was.asked) (sym (beginning_kept a.number was.number));
+  }
 
   pub node_kept : (G : Rules) (C : List Set) (M : Marking) (i : ℕ) (node : SiteState) → IsNodeAt G C M before i node → IsNodeAt G C M after i node
   node_kept G C M i node at =
@@ -147,10 +172,26 @@ asked_in_range G C M j sound out n call is = by_out j.out refl is
         → slice_get (map (λ (entry : Entry). entry.call) j.history.entries ++ option_to_list (option_map (λ (p : Proposal). (asked_by p).1) o)) n ≡ Some call
         → IsInRange (length C) G.atoms call
     by_out None none found = old (ap (λ cs. slice_get cs n) (sym (append-nil (map (λ (entry : Entry). entry.call) j.history.entries))) ∙ found)
-    by_out (Some p) some found = elim (push_cases (map (λ (entry : Entry). entry.call) j.history.entries) (Exec p.site p.event) n call found) [
-      | inl at ↦ subst (IsInRange (length C) G.atoms) (sym at.1) ((out p some).site, (out p some).event)
+    by_out (Some p) some found = elim (push_cases (map (λ (entry : Entry). entry.call) j.history.entries) p.call n call found) [
+      | inl at ↦ subst (IsInRange (length C) G.atoms) (sym at.1) (out p some)
       | inr before ↦ old before
     ]
+
+-- the execution that is out is the proposal
+pub out_is : (j : JournalState) (x : Execution) → execution_out j ≡ Some x → j.out ≡ Some (execution x.session x.site x.event)
+out_is j x is = by_out j.out refl is
+  where
+    by_call : (p : Proposal) (call : Call) → p.call ≡ call → execution_in p call ≡ Some x → Some p ≡ Some (execution x.session x.site x.event)
+    by_call p (Exec i e) same found =
+        ap (λ c. let q : Proposal = record { session = p.session; call = c } in Some q) same
+        ∙ ap (λ (y : Execution). Some (execution y.session y.site y.event)) (same_Some (record { session = p.session; site = i; event = e }) x found)
+    by_call p (Look i) same none = absurd (none-some x none)
+    by_call p (Enabled i) same none = absurd (none-some x none)
+    by_call p Accepting same none = absurd (none-some x none)
+
+    by_out : (o : Option Proposal) → j.out ≡ o → option_and_then (λ (p : Proposal). execution_in p p.call) o ≡ Some x → j.out ≡ Some (execution x.session x.site x.event)
+    by_out None same none = absurd (none-some x none)
+    by_out (Some p) same found = same ∙ by_call p p.call refl found
 
 -- ---- decisions
 

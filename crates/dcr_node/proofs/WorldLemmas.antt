@@ -45,7 +45,7 @@ numbered_more sites nodes site id are is = record {
 }
 
 -- a site that stands is the one at that marking
-stands_is : (G : Rules) (C : List Set) (M : Marking) (i : ℕ) (node : SiteState) → StandsAt G (row C i) M node.site → node.id ≡ i → node.count ≡ 0 → node ≡ site_at G C M i
+pub stands_is : (G : Rules) (C : List Set) (M : Marking) (i : ℕ) (node : SiteState) → StandsAt G (row C i) M node.site → node.id ≡ i → node.count ≡ 0 → node ≡ site_at G C M i
 stands_is G C M i node at id count =
     ap (λ P. let s : Seen = record { projection = P; mark = node.site.mark } in let n : SiteState = record { id = node.id; count = node.count; site = s } in n) at.projection
     ∙ ap (λ m. let s : Seen = record { projection = (site_at G C M i).site.projection; mark = m } in let n : SiteState = record { id = node.id; count = node.count; site = s } in n) at.mark

@@ -8,7 +8,7 @@ use Rattle.dcr_node.specs.declared.journal_node.JournalNode.TheInside.{Inside}
 use Rattle.dcr_node.specs.declared.journal_node.Proposal.{Proposal}
 
 abbrev pub journal_state_of : Inside → JournalState
-journal_state_of n = record { alphabets = n.network; history = n.journal; sessions = length n.made.items; out = n.out }
+journal_state_of n = record { alphabets = n.network; history = n.journal; sessions = length n.made.items; out = n.out; gathered = n.gathered.items }
 
 -- a proposal that is out is one, and there is room for its entry
 pub record IsOut (j : JournalState) (p : Proposal) : Type 0 where
@@ -20,7 +20,7 @@ pub record IsStream (j : JournalState) (i : ℕ) (stream : StreamValue) : Type 0
   pub events : stream.events ≡ stream_of j i
   pub room : stream.room ≡ j.history.capacity
 
--- each stream is its site's, and the number of entries of each session is known
+-- each stream is its site's, the number of entries of each session is known, and there is a place for what each site tells
 pub record IsJournalNode (n : Inside) : Type 0 where
   pub network : IsNetwork n.network
   pub most : n.journal.capacity ≤ 200000
@@ -29,3 +29,4 @@ pub record IsJournalNode (n : Inside) : Type 0 where
   pub as_many : length n.streams.items ≡ length n.network
   pub streams : (i : ℕ) (stream : StreamValue) → slice_get n.streams.items i ≡ Some stream → IsStream (journal_state_of n) i stream
   pub out : (p : Proposal) → n.out ≡ Some p → IsOut (journal_state_of n) p
+  pub gathered : length n.gathered.items ≡ length n.network

@@ -1,6 +1,7 @@
 pub mod Heard
 pub mod SiteState
 pub mod SiteNodeModel
+pub mod Gathering
 pub mod JournalState
 pub mod StreamValue
 pub mod StreamModel

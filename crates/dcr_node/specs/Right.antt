@@ -1,27 +1,36 @@
--- When a world is right: the journal is a run of the graph, every message that was ever sent is true and stays so, and
--- each site stands where the executions that it has heard of lead.
+-- When a world is right: the journal is a run of the graph, every message, question and answer that was ever sent is true
+-- and stays so, what was gathered is the graph's, and each site stands where the executions that it has heard of lead.
 use Rattle.std.specs.Prelude.{◌≡◌, ℕ, ◌+◌, ◌<◌, ◌≤◌, ◌==◌, List, ◌++◌, length, map, take, slice_get, Option, Some, option_map, option_to_list}
 use Rattle.std.specs.List.{All}
 use Rattle.dcr_set.specs.EventSet.{Set, has}
 use Rattle.dcr_set.specs.Least.{least}
+use Rattle.dcr_graph.specs.Cause.{enabled_in}
 use Rattle.dcr_graph.specs.Rows.{row}
 use Rattle.dcr_graph.specs.Rules.{Rules}
 use Rattle.dcr_graph.specs.Projection.{project, HasRoom}
 use Rattle.dcr_graph.specs.declared.marking.Marking.{Marking}
+use Rattle.dcr_graph.specs.declared.marking.SiteMark.{SiteMark}
 use Rattle.dcr_proj.specs.CoverValue.{IsCovered}
 use Rattle.dcr_proj.specs.Local.{projection_of}
-use Rattle.dcr_site.specs.Decision.{decision}
+use Rattle.dcr_site.specs.Decision.{decision, owned_waits}
 use Rattle.dcr_site.specs.Seen.{StandsAt}
-use Rattle.dcr_journal.specs.Run.{IsSound, after, touches}
+use Rattle.dcr_journal.specs.Run.{IsInRange, IsSound, after, touches}
 use Rattle.dcr_journal.specs.declared.call.Call.{Call}
 use Rattle.dcr_journal.specs.declared.call.Call.TheVariants.{Exec}
 use Rattle.dcr_journal.specs.declared.call.Entry.{Entry}
+use Rattle.dcr_wire.specs.declared.answer.Answer.{Answer}
+use Rattle.dcr_wire.specs.declared.answer.Told.{Told}
+use Rattle.dcr_wire.specs.declared.answer.Told.TheVariants as told
 use Rattle.dcr_wire.specs.declared.message.Message.{Message}
 use Rattle.dcr_wire.specs.declared.message.Message.TheVariants.{Ask, Vote, Apply}
+use Rattle.dcr_wire.specs.declared.question.Asked.{Asked}
+use Rattle.dcr_wire.specs.declared.question.Asked.TheVariants.{Marks, Can, Waits}
+use Rattle.dcr_wire.specs.declared.question.Question.{Question}
 use Rattle.dcr_node.specs.Heard.{heard, stepped_by_all}
 use Rattle.dcr_node.specs.SiteState.{SiteState}
 use Rattle.dcr_node.specs.JournalState.{JournalState, asked_by, stream_of}
 use Rattle.dcr_node.specs.WorldState.{WorldState, alphabets_over}
+use Rattle.dcr_node.specs.declared.gathered.Gathered.{Gathered}
 use Rattle.dcr_node.specs.declared.journal_node.Proposal.{Proposal}
 
 -- the alphabet of the site that owns S
@@ -58,9 +67,38 @@ pub record IsNodeAt (G : Rules) (C : List Set) (M : Marking) (j : JournalState) 
   pub stands : StandsAt G (row C i) (stepped_by_all G M (take node.count (stream_of j i))) node.site
 
 -- the proposal that is out is for a site and an atom
-pub record IsOutAt (G : Rules) (C : List Set) (p : Proposal) : Type 0 where
-  pub site : p.site < length C
-  pub event : p.event < G.atoms
+abbrev pub IsOutAt : Rules → List Set → Proposal → Type 0
+IsOutAt G C p = IsInRange (length C) G.atoms p.call
+
+-- A question asks a site for what it tells after so many entries as its number says, at the count of what the site takes
+-- part in among these.
+pub record IsAskedAt (j : JournalState) (q : Question) : Type 0 where
+  pub site : q.site < length j.alphabets
+  pub number : q.number ≤ length j.history.entries
+  pub count : q.count ≡ length (heard (has (row j.alphabets q.site)) (take q.number j.history.entries))
+
+-- what the graph has for the site that owns S at a marking
+abbrev pub graph_tells : Rules → Set → Marking → Asked → Told
+graph_tells G S N Marks = told.Marks (project G S N)
+graph_tells G S N Can = told.Can (enabled_in G S N)
+graph_tells G S N Waits = told.Waits (owned_waits G S N)
+
+-- what a site told is what the graph has for it after so many entries as the number says
+pub record IsAnswerAt (G : Rules) (C : List Set) (M : Marking) (j : JournalState) (a : Answer) : Type 0 where
+  pub site : a.site < length C
+  pub number : a.number ≤ length j.history.entries
+  pub asked : Asked
+  pub told : a.told ≡ graph_tells G (row C a.site) (after G M (take a.number j.history.entries)) asked
+
+-- what was gathered of the site that owns S is what the graph has at a marking
+pub record IsGatheredAt (G : Rules) (S : Set) (N : Marking) (g : Gathered) : Type 0 where
+  pub marks : (mark : SiteMark) → g.marks ≡ Some mark → mark ≡ project G S N
+  pub waits : (event : Option ℕ) → g.waits ≡ Some event → event ≡ owned_waits G S N
+
+-- and so of each site after all entries
+pub record AreGathered (G : Rules) (C : List Set) (M : Marking) (j : JournalState) : Type 0 where
+  pub as_many : length j.gathered ≡ length C
+  pub each : (i : ℕ) (g : Gathered) → slice_get j.gathered i ≡ Some g → IsGatheredAt G (row C i) (after G M j.history.entries) g
 
 -- the world is right for the rules G, the owned sets C and the opening M
 pub record IsRight (G : Rules) (C : List Set) (M : Marking) (w : WorldState) : Type 0 where
@@ -72,6 +110,9 @@ pub record IsRight (G : Rules) (C : List Set) (M : Marking) (w : WorldState) : T
   pub as_many : length w.sites ≡ length C
   pub sites : (i : ℕ) (node : SiteState) → slice_get w.sites i ≡ Some node → IsNodeAt G C M w.journal i node
   pub sent : (k : ℕ) (message : Message) → slice_get w.sent k ≡ Some message → IsTrueAt G C M w.journal message
+  pub gathered : AreGathered G C M w.journal
+  pub questions : (k : ℕ) (q : Question) → slice_get w.questions k ≡ Some q → IsAskedAt w.journal q
+  pub answers : (k : ℕ) (a : Answer) → slice_get w.answers k ≡ Some a → IsAnswerAt G C M w.journal a
 
 -- ---- what that means for the marks of a site
 

@@ -9,9 +9,15 @@ use Rattle.dcr_site.specs.Decision.{by_cause}
 use Rattle.dcr_site.specs.Seen.{Seen}
 use Rattle.dcr_site.specs.declared.site.Decision.{Decision}
 use Rattle.dcr_site.specs.declared.site.Decision.TheVariants.{NotHere}
-use Rattle.dcr_laws.specs.AtSites.{cause_at}
+use Rattle.dcr_laws.specs.AtSites.{cause_at, enabled_at, waits_at}
+use Rattle.dcr_wire.specs.declared.answer.Answer.{Answer}
+use Rattle.dcr_wire.specs.declared.answer.Told.{Told}
+use Rattle.dcr_wire.specs.declared.answer.Told.TheVariants as told
 use Rattle.dcr_wire.specs.declared.message.Message.{Message}
 use Rattle.dcr_wire.specs.declared.message.Message.TheVariants.{Ask, Vote, Apply}
+use Rattle.dcr_wire.specs.declared.question.Asked.{Asked}
+use Rattle.dcr_wire.specs.declared.question.Asked.TheVariants.{Marks, Can, Waits}
+use Rattle.dcr_wire.specs.declared.question.Question.{Question}
 
 pub record SiteState : Type 0 where
   pub id : ℕ
@@ -43,6 +49,20 @@ replied G S node (Ask number site event count) =
     if is_ready node site count then Some (Vote number site (decision_at G S node.site.mark event)) else None
 replied G S node (Vote number site decision) = None
 replied G S node (Apply site index event) = None
+
+-- what the site that owns S tells by its marks: them, the owned atoms that may be executed, the least owned atom that waits
+abbrev pub told_at : Rules → Set → SiteMark → Asked → Told
+told_at G S m Marks = told.Marks m
+told_at G S m Can = told.Can (enabled_at G S m)
+told_at G S m Waits = told.Waits (waits_at G.atoms S m)
+
+-- what that site tells to a question
+abbrev pub answer_at : Rules → Set → SiteState → Question → Answer
+answer_at G S node q = record { number = q.number; site = q.site; told = told_at G S node.site.mark q.asked }
+
+-- the answer of the site that owns S to a question for it at its own count; to any other none
+abbrev pub answered : Rules → Set → SiteState → Question → Option Answer
+answered G S node q = if is_ready node q.site q.count then Some (answer_at G S node q) else None
 
 -- The state of the site that owns S after a message: the execution whose index is its count is applied by the local
 -- step, and the count rises; all else changes nothing.

@@ -7,7 +7,14 @@ use Rattle.dcr_node.specs.Right.{IsRight}
 use Rattle.dcr_node.specs.declared.world.World.TheInside.{Inside}
 
 abbrev pub world_of : Inside → WorldState
-world_of w = record { opening = w.opening; journal = w.journal; sites = w.sites.items; sent = w.sent.items }
+world_of w = record {
+  opening = w.opening;
+  journal = w.journal;
+  sites = w.sites.items;
+  sent = w.sent.items;
+  questions = w.questions.items;
+  answers = w.answers.items;
+}
 
 -- there are rules and owned sets for which the world is right from its opening
 abbrev pub IsWorld : Inside → Type 0

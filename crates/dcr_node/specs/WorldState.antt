@@ -1,4 +1,4 @@
--- All nodes together, and every message that was sent.
+-- All nodes together, and every message, question and answer that was sent.
 use Rattle.std.specs.Prelude.{◌≡◌, ℕ, ◌<◌, ◌≤◌, List, [], map, length, slice_get, Some}
 use Rattle.std.specs.List.{range_with_len}
 use Rattle.dcr_set.specs.EventSet.{Set, those}
@@ -8,10 +8,15 @@ use Rattle.dcr_graph.specs.Projection.{in_alphabet, project}
 use Rattle.dcr_graph.specs.declared.marking.Marking.{Marking}
 use Rattle.dcr_proj.specs.CoverValue.{atoms_of}
 use Rattle.dcr_proj.specs.Local.{projection_of}
+use Rattle.dcr_journal.specs.Run.{IsInRange}
 use Rattle.dcr_site.specs.Seen.{Seen}
+use Rattle.dcr_wire.specs.declared.answer.Answer.{Answer}
 use Rattle.dcr_wire.specs.declared.message.Message.{Message}
+use Rattle.dcr_wire.specs.declared.question.Question.{Question}
 use Rattle.dcr_node.specs.SiteState.{SiteState, new_site}
 use Rattle.dcr_node.specs.JournalState.{JournalState, new_journal, stream_of}
+use Rattle.dcr_node.specs.declared.event.CallEvent.{CallEvent}
+use Rattle.dcr_node.specs.declared.event.CallEvent.TheVariants.{ProposeCall, AskSite, DeliverQuestion, DeliverAnswer}
 use Rattle.dcr_node.specs.declared.event.WorldEvent.{WorldEvent}
 use Rattle.dcr_node.specs.declared.event.WorldEvent.TheVariants.{Propose, AskAgain, Item, Deliver}
 
@@ -22,6 +27,9 @@ pub record WorldState : Type 0 where
   pub sites : List SiteState
   -- every message that was sent, in order
   pub sent : List Message
+  -- every question and every answer that was sent, in order
+  pub questions : List Question
+  pub answers : List Answer
 
 -- the site with this number at a marking
 abbrev pub site_at : Rules → List Set → Marking → ℕ → SiteState
@@ -40,6 +48,8 @@ opened G C M sessions capacity = record {
   journal = new_journal (alphabets_over G C) sessions capacity;
   sites = map (site_at G C M) (range_with_len 0 (length C));
   sent = [];
+  questions = [];
+  answers = [];
 }
 
 -- the numbers of an event are those of a session, of a site and of an atom; the index of an item and the number of a
@@ -49,6 +59,13 @@ IsEvent w (Propose session site event) = (session < w.journal.sessions) × (site
 IsEvent w AskAgain = Unit {0}
 IsEvent w (Item site index) = site < length w.sites
 IsEvent w (Deliver message) = Unit {0}
+
+-- the same of an event of any call
+abbrev pub IsCallEvent : WorldState → CallEvent → Type 0
+IsCallEvent w (ProposeCall session call) = (session < w.journal.sessions) × IsInRange (length w.sites) (atoms_of w.journal.alphabets) call
+IsCallEvent w (AskSite site asked) = site < length w.sites
+IsCallEvent w (DeliverQuestion question) = Unit {0}
+IsCallEvent w (DeliverAnswer answer) = Unit {0}
 
 -- what no event changes, and that no message is lost from the list
 pub record IsKept (before after : WorldState) : Type 0 where

@@ -1,6 +1,9 @@
+use dcr_journal::Call;
 use dcr_set::{EventId, SiteId};
+use dcr_wire::Asked;
 
-/// What may happen to nodes and their network. A message that is lost is one that is not delivered again.
+/// What may happen to nodes and their network where executions are proposed. A message that is lost is one that is not
+/// delivered again.
 #[derive(Clone, Copy, Debug, PartialEq, Eq)]
 pub enum WorldEvent {
     /// A session proposes an execution of the event at the site, and the journal node asks the site.
@@ -20,4 +23,18 @@ pub enum WorldEvent {
     Deliver {
         message: u64,
     },
+}
+
+/// What may happen where any call is proposed, and sites are asked what they are to tell. A question or an answer that is
+/// lost is one that is not delivered again.
+#[derive(Clone, Copy, Debug, PartialEq, Eq)]
+pub enum CallEvent {
+    /// A session proposes a call. What it asks is sent by further events.
+    ProposeCall { session: u32, call: Call },
+    /// The journal node asks a site what it is to tell.
+    AskSite { site: SiteId, asked: Asked },
+    /// The question with this number, from 0 in the order sent, reaches its site.
+    DeliverQuestion { question: u64 },
+    /// The answer with this number, from 0 in the order sent, reaches the journal node.
+    DeliverAnswer { answer: u64 },
 }

@@ -1,7 +1,8 @@
-ghost use Rattle.dcr_node.specs.Laws.{EveryWorldIsRight, EveryJournalIsLegal, EverySiteHeardABeginning, EachEventKeepsRight, SitesHeardABeginning, ASiteMayBeginAnew, NothingElseIsTold, AskingTells, AnItemIsHeard};
+ghost use Rattle.dcr_node.specs.Laws.{EveryWorldIsRight, EveryJournalIsLegal, EverySiteHeardABeginning, EachEventKeepsRight, SitesHeardABeginning, ASiteMayBeginAnew, NothingElseIsTold, AskingTells, AnItemIsHeard, AnAnswerTells, TheEndsAreTheGraphs, AllAnswersTell, AskingAllTells};
 
-/// Whatever happens to the nodes of a case and their network, in whatever order: the world is right, its journal is a run
-/// of the graph, and each site has heard of a beginning of it, whose projection its marks are.
+/// Whatever happens to the nodes of a case and their network, in whatever order, whatever calls are proposed and however
+/// often sites begin anew: the world is right, its journal is a run of the graph, so that each call has the graph's answer
+/// at its place, and each site has heard of a beginning of it, whose projection its marks are.
 pub fn every_world_is_right()
     ensures right { EveryWorldIsRight }
     ensures legal { EveryJournalIsLegal }
@@ -28,4 +29,20 @@ pub fn proposals_are_told()
     ensures nothing_else { NothingElseIsTold }
     ensures asking { AskingTells }
     ensures hearing { AnItemIsHeard }
+{}
+
+/// An answer leaves the journal but for what is gathered, or the call that was out has its entry, exactly as the graph tells
+/// it. What was gathered of all sites are the graph's marks after the entries, and its verdict.
+pub fn answers_are_told()
+    ensures answering { AnAnswerTells }
+    ensures ends { TheEndsAreTheGraphs }
+{}
+
+/// Once what each site tells that the call which is out asks was delivered, the call has its entry, exactly as the graph tells
+/// it, and nothing else changed: in whatever order it was delivered, however often, and with whatever other answers among it.
+/// Where the sites that are asked have heard of their whole streams, asking each of them and delivering the questions and then
+/// the answers, in the order sent, brings that.
+pub fn asking_brings_the_answer()
+    ensures answers { AllAnswersTell }
+    ensures asking { AskingAllTells }
 {}

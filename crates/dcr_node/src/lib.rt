@@ -3,16 +3,19 @@
 #![tactic(auto)]
 
 mod event;
+mod gathered;
 mod journal_node;
 mod laws;
 mod site_node;
 mod stream;
 mod world;
 
-pub use event::WorldEvent;
-pub use journal_node::{JournalNode, Proposal};
+pub use event::{CallEvent, WorldEvent};
+pub use gathered::Gathered;
+pub use journal_node::{JournalNode, MOST_SESSIONS, Proposal};
 pub use laws::{
-    a_site_may_begin_anew, every_world_is_right, proposals_are_told, sites_heard_a_beginning,
+    a_site_may_begin_anew, answers_are_told, asking_brings_the_answer, every_world_is_right,
+    proposals_are_told, sites_heard_a_beginning,
 };
 pub use site_node::SiteNode;
 pub use world::World;

@@ -1,6 +1,6 @@
 use dcr_set::{EventId, SiteId};
 use dcr_site::Site;
-use dcr_wire::Message;
+use dcr_wire::{Answer, Asked, Message, Question, Told};
 use std::marker::Model;
 
 /// The most executions of which a site can be told.
@@ -30,7 +30,7 @@ impl SiteNode {
     ghost use Rattle.dcr_graph.specs.Rules.{Rules};
     ghost use Rattle.dcr_graph.specs.declared.marking.Marking.{Marking as Marks};
     ghost use Rattle.dcr_site.specs.Seen.{StandsAt};
-    ghost use Rattle.dcr_node.specs.SiteState.{new_site, replied, site_step, count_after, is_ready, SiteMayTake};
+    ghost use Rattle.dcr_node.specs.SiteState.{new_site, replied, told_at, answered, site_step, count_after, is_ready, SiteMayTake};
 
     /// The node of the site with this number, which has heard of nothing.
     pub fn new(id: SiteId, site: Site) -> SiteNode
@@ -89,6 +89,33 @@ impl SiteNode {
                 self.hear(*site, *index, *event);
                 None
             }
+        }
+    }
+
+    /// Answers a question for this site that was asked at its count, by its own marks: its marks, which of its events may be
+    /// executed, or the first for which it waits. Any other isn't answered. Any question may be handed in, and none changes
+    /// the site. Takes no memory.
+    pub fn answer(&self, question: &Question) -> Option<Answer>
+        ensures { (G : Rules) (S : List Bool) (M : Marks) → StandsAt G S M self.now.site → result ≡ answered G S self.now question.now }
+    {
+        if !self.is_for(question.site, question.count) {
+            return None;
+        }
+        Some(Answer {
+            number: question.number,
+            site: question.site,
+            told: self.tell(&question.asked),
+        })
+    }
+
+    // What the site tells that is asked.
+    fn tell(&self, asked: &Asked) -> Told
+        ensures { (G : Rules) (S : List Bool) (M : Marks) → StandsAt G S M self.now.site → result ≡ told_at G S self.now.site.mark asked.now }
+    {
+        match asked {
+            Asked::Marks => Told::Marks(self.site.mark()),
+            Asked::Can => Told::Can(self.site.can()),
+            Asked::Waits => Told::Waits(self.site.first_waiting()),
         }
     }
 

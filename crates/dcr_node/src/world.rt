@@ -2,29 +2,32 @@ ghost use Rattle.std.specs.Prelude.{◌≡◌, ◌<◌, ◌≤◌, List, Bool, l
 ghost use Rattle.dcr_set.specs.Least.{least};
 ghost use Rattle.dcr_graph.specs.Rules.{Rules};
 ghost use Rattle.dcr_graph.specs.declared.marking.Marking.{Marking as Marks};
+ghost use Rattle.dcr_site.specs.Seen.{StandsAt};
 ghost use Rattle.dcr_site.specs.Together.{AllStand, waits_in};
-ghost use Rattle.dcr_node.specs.SiteState.{SiteState, SiteMayTake};
+ghost use Rattle.dcr_node.specs.SiteState.{SiteState, SiteMayTake, answered};
 ghost use Rattle.dcr_node.specs.Parts.{MayHappen, Happened, Reached, AreNumbered};
 
-use crate::{JournalNode, SiteNode, WorldEvent};
+use crate::{CallEvent, JournalNode, SiteNode, WorldEvent};
 use dcr_graph::{Graph, Marking, SiteMark};
 use dcr_journal::{Closed, MarkList};
-use dcr_proj::Cover;
+use dcr_proj::{Cover, project};
 use dcr_run::Sites;
 use dcr_set::{EventId, NoMemory, SiteId};
 use dcr_site::Site;
-use dcr_wire::{Message, Packet};
+use dcr_wire::{Answer, Asked, Message, Packet, Question};
 use std::alloc::Global;
 use std::marker::Model;
 
-/// The nodes of a case, each by itself, and every message that was sent so far, as its bytes. It is right at every moment
-/// (`IsRight`). Contracts see it as `WorldState`.
+/// The nodes of a case, each by itself, every message that was sent so far, as its bytes, and every question and every
+/// answer. It is right at every moment (`IsRight`). Contracts see it as `WorldState`.
 #[derive(Drop)]
 pub struct World {
     opening: Marking,
     journal: JournalNode,
     sites: Vec<SiteNode>,
     sent: Vec<Packet>,
+    questions: Vec<Question>,
+    answers: Vec<Answer>,
 }
 
 impl Model for World {
@@ -46,8 +49,9 @@ impl World {
     ghost use Rattle.dcr_graph.specs.GraphValue.{rules_of};
     ghost use Rattle.dcr_graph.specs.Projection.{HasRoom};
     ghost use Rattle.dcr_graph.specs.declared.marking.Marking.{Marking as Marks};
-    ghost use Rattle.dcr_node.specs.WorldState.{opened, IsEvent, IsKept, HaveHeardAll};
-    ghost use Rattle.dcr_node.specs.Machine.{happens};
+    ghost use Rattle.dcr_node.specs.WorldState.{opened, IsEvent, IsCallEvent, IsKept, HaveHeardAll};
+    ghost use Rattle.dcr_node.specs.Machine.{happens, calls, begun_anew};
+    ghost use Rattle.dcr_node.specs.declared.event.CallEvent.TheVariants.{AskSite, DeliverQuestion, DeliverAnswer, ProposeCall};
     ghost use Rattle.dcr_node.specs.Right.{IsRight};
     ghost use Rattle.dcr_node.specs.Closing.{Closes};
 
@@ -76,6 +80,8 @@ impl World {
             journal,
             sites,
             sent: Vec::new(alloc),
+            questions: Vec::new(alloc),
+            answers: Vec::new(alloc),
         })
     }
 
@@ -97,6 +103,67 @@ impl World {
             self.sent.push_reserved(Packet::of(&message));
         }
         Ok(())
+    }
+
+    /// Makes an event of any call happen. An event that can't happen changes nothing: a proposal where one is out or the
+    /// journal is full, a question or an answer that isn't there. After `NoMemory`, which comes before any node has taken
+    /// anything, the world is as before.
+    pub fn call(&mut self, event: CallEvent) -> Result<(), NoMemory>
+        requires { IsCallEvent self.old event }
+        ensures happened { OnOk result ((G : Rules) (C : List (List Bool)) (M : Marks) → IsRight G C M self.old → self.new ≡ calls G C self.old event) }
+        ensures right { (G : Rules) (C : List (List Bool)) (M : Marks) → IsRight G C M self.old → IsRight G C M self.new }
+        ensures kept { IsKept self.old self.new }
+        ensures refused { OnErr result (self.new ≡ self.old) }
+    {
+        match event {
+            CallEvent::ProposeCall { session, call } => {
+                self.journal.propose_call(session, &call);
+                Ok(())
+            }
+            CallEvent::AskSite { site, asked } => self.ask_site(site, asked),
+            CallEvent::DeliverQuestion { question } => self.deliver_question(question),
+            CallEvent::DeliverAnswer { answer } => {
+                self.deliver_answer(answer);
+                Ok(())
+            }
+        }
+    }
+
+    /// A site begins anew: its node is put back to the marks of the opening, and has heard of nothing. The graph and the cover
+    /// are those of the world. After `NoMemory` the world is as before.
+    pub fn begin_anew(
+        &mut self,
+        alloc: Global,
+        graph: &Graph,
+        cover: &Cover,
+        site: SiteId,
+    ) -> Result<(), NoMemory>
+        requires right { IsRight (rules_of graph.now) cover.now.owned self.old.opening self.old }
+        requires site { site < length self.old.sites }
+        ensures begun { OnOk result (self.new ≡ begun_anew (rules_of graph.now) cover.now.owned self.old site) }
+        ensures right { IsRight (rules_of graph.now) cover.now.owned self.old.opening self.new }
+        ensures kept { IsKept self.old self.new }
+        ensures refused { OnErr result (self.new ≡ self.old) }
+    {
+        let own = &cover.owned_sets()[usize::from(site.0)];
+        let projection = project(alloc, graph, own)?;
+        let opened = Site::open(projection, &self.opening);
+        self.sites[usize::from(site.0)] = SiteNode::new(site, opened);
+        Ok(())
+    }
+
+    /// How many questions were sent.
+    pub fn questions(&self) -> u64
+        ensures { result ≡ length self.now.questions }
+    {
+        self.questions.len() as u64
+    }
+
+    /// How many answers were sent.
+    pub fn answers(&self) -> u64
+        ensures { result ≡ length self.now.answers }
+    {
+        self.answers.len() as u64
     }
 
     /// How many sites there are.
@@ -144,6 +211,46 @@ impl World {
             marks: MarkList::new(marks),
             waits: first_waiting(&self.sites),
         })
+    }
+
+    // The journal node asks a site what it is to tell.
+    fn ask_site(&mut self, site: SiteId, asked: Asked) -> Result<(), NoMemory>
+        requires { IsCallEvent self.old (AskSite site asked) }
+        ensures happened { OnOk result ((G : Rules) (C : List (List Bool)) (M : Marks) → IsRight G C M self.old → self.new ≡ calls G C self.old (AskSite site asked)) }
+        ensures right { (G : Rules) (C : List (List Bool)) (M : Marks) → IsRight G C M self.old → IsRight G C M self.new }
+        ensures kept { IsKept self.old self.new }
+        ensures refused { OnErr result (self.new ≡ self.old) }
+    {
+        let question = self.journal.question(site, asked);
+        self.questions.push(question)?;
+        Ok(())
+    }
+
+    // The question with this number reaches its site, where there is one.
+    fn deliver_question(&mut self, number: u64) -> Result<(), NoMemory>
+        ensures happened { OnOk result ((G : Rules) (C : List (List Bool)) (M : Marks) → IsRight G C M self.old → self.new ≡ calls G C self.old (DeliverQuestion number)) }
+        ensures right { (G : Rules) (C : List (List Bool)) (M : Marks) → IsRight G C M self.old → IsRight G C M self.new }
+        ensures kept { IsKept self.old self.new }
+        ensures refused { OnErr result (self.new ≡ self.old) }
+    {
+        let Some(question) = self.questions.get(number as usize) else {
+            return Ok(());
+        };
+        if let Some(answer) = asked_site(&self.sites, question) {
+            self.answers.push(answer)?;
+        }
+        Ok(())
+    }
+
+    // The answer with this number reaches the journal node, where there is one.
+    fn deliver_answer(&mut self, number: u64)
+        ensures happened { (G : Rules) (C : List (List Bool)) (M : Marks) → IsRight G C M self.old → self.new ≡ calls G C self.old (DeliverAnswer number) }
+        ensures right { (G : Rules) (C : List (List Bool)) (M : Marks) → IsRight G C M self.old → IsRight G C M self.new }
+        ensures kept { IsKept self.old self.new }
+    {
+        if let Some(answer) = self.answers.get(number as usize) {
+            self.journal.hear(answer);
+        }
     }
 
     // Whether the event can't happen.
@@ -227,6 +334,15 @@ fn reach(sites: &mut [SiteNode], site: SiteId, message: &Message) -> Option<Mess
 {
     let node = &mut sites[usize::from(site.0)];
     node.step(message)
+}
+
+// What a site answers to a question.
+fn asked_site(sites: &[SiteNode], question: &Question) -> Option<Answer>
+    requires { question.now.site < length sites.now }
+    ensures { (G : Rules) (S : List Bool) (M : Marks) (node : SiteState) → slice_get sites.now question.now.site ≡ Some node → StandsAt G S M node.site
+        → result ≡ answered G S node question.now }
+{
+    sites[usize::from(question.site.0)].answer(question)
 }
 
 // The marks of the sites, in order.

@@ -1,11 +1,12 @@
 -- Masks under numbers: the mask that has no event, and masks that still lie where they lay.
-use Rattle.std.proofs.Common.{◌≡◌, ℕ, ◌+◌, ◌<◌, ◌≤◌, Bool, true, false, not, ◌&&◌, eqb, List, [], ◌∷◌, ◌++◌, length, get_or, Option, Some, None, is_some, inl, inr, refl, sym, ap, subst, ◌∙◌, arith}
+use Rattle.std.proofs.Common.{◌≡◌, ℕ, ◌+◌, ◌<◌, ◌≤◌, Bool, true, false, not, ◌&&◌, eqb, List, [], ◌∷◌, ◌++◌, length, get_or, Option, Some, None, is_some, nat_le, inl, inr, refl, sym, ap, subst, ◌∙◌, arith}
 use Rattle.std.proofs.lemmas.Bool.{false≢true, cases_lt, eqb-true}
+use Rattle.std.proofs.lemmas.Bool.Decides.{nat_tests}
 use Rattle.std.specs.Prelude.{IfSome}
 use Rattle.std.specs.List.{All}
 use Rattle.std.proofs.lemmas.List.Elements.{All-append}
 use Rattle.std.proofs.lemmas.List.{get_or_append_left, get_or_at, get_or_read, length-append}
-use Rattle.dcr_set.specs.EventSet.{Set, has, those, no_event, without_event, first_of, first_in_both_without}
+use Rattle.dcr_set.specs.EventSet.{Set, has, those, no_event, first_of, first_at_least, first_in_both_without}
 use Rattle.dcr_set.proofs.LeastLemmas.{least-none, least-none_from, least-some}
 use Rattle.dcr_set.proofs.SetLemmas.{length-those, has-those, has_past, same_set, those-has, those-ext}
 use Rattle.dcr_graph.specs.Rows.{row}
@@ -23,20 +24,24 @@ use Rattle.dcr_proj.specs.declared.masks.Place.{Place}
 pub nothing_first : (s : Set) → first_of s ≡ None → s ≡ no_event (length s)
 nothing_first s none = sym (those-has s) ∙ those-ext (length s) _ _ (λ k below. least-none (length s) (has s) none k below)
 
--- a set with a least event and no other has that event alone
-pub one_event : (s : Set) (e : ℕ) → first_of s ≡ Some e → is_some (first_of (without_event s e)) ≡ false → s ≡ those (length s) (λ k. eqb k e)
+-- a set with a least event and none behind it has that event alone
+pub one_event : (s : Set) (e : ℕ) → first_of s ≡ Some e → is_some (first_at_least s (e + 1)) ≡ false → s ≡ those (length s) (λ k. eqb k e)
 one_event s e first others = sym (those-has s) ∙ those-ext (length s) _ _ (λ k below. here k below (eqb k e) refl)
   where
-    none : (o : Option ℕ) → first_of (without_event s e) ≡ o → is_some o ≡ false → first_of (without_event s e) ≡ None
+    none : (o : Option ℕ) → first_at_least s (e + 1) ≡ o → is_some o ≡ false → first_at_least s (e + 1) ≡ None
     none None is out = is
     none (Some k) is out = absurd (false≢true (sym out))
 
+    behind : (k : ℕ) → eqb k e ≡ false → e ≤ k → nat_le (e + 1) k ≡ true
+    behind k other from = grind (arith, nat_tests)
+
     here : (k : ℕ) → k < length s → (b : Bool) → eqb k e ≡ b → has s k ≡ b
     here k below true same = ap (has s) (eqb-true k e same) ∙ (least-some (length s) (has s) e first).passes
-    here k below false other =
-        let room = length-those (length s) (λ j. has s j && not (eqb j e)) in
-        sym (and_true (has s k)) ∙ ap (λ b. has s k && not b) (sym other) ∙ sym (has-those (length s) (λ j. has s j && not (eqb j e)) k below)
-        ∙ least-none (length (without_event s e)) (has (without_event s e)) (none _ refl others) k (omega arith)
+    here k below false other = elim (cases_lt k e) [
+      | inl before ↦ (least-some (length s) (has s) e first).none_before k before
+      | inr from ↦ sym (and_true (has s k)) ∙ ap (λ b. has s k && b) (sym (behind k other from))
+          ∙ least-none (length s) (λ j. has s j && nat_le (e + 1) j) (none _ refl others) k below
+    ]
 
 pub not_true : (b : Bool) → not b ≡ false → b ≡ true
 not_true true is = refl
@@ -160,7 +165,7 @@ grown_masks old new mask are grows room =
 
 -- a mask that was kept has the one event alone that it had
 pub alone_there : (old new : List Set) (mask : Set) (number e : ℕ) → AreMasks old → Grows old new mask → length mask ≡ atoms_of old → row new number ≡ mask
-    → first_of mask ≡ Some e → is_some (first_of (without_event mask e)) ≡ false → HasAlone new number e
+    → first_of mask ≡ Some e → is_some (first_at_least mask (e + 1)) ≡ false → HasAlone new number e
 alone_there old new mask number e are grows room there first others =
     let kept = (grown_masks old new mask are grows room).1 in
     let atoms : length mask ≡ atoms_of new = room ∙ sym (kept_room old new are.some_mask kept) in

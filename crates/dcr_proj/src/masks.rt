@@ -2,7 +2,7 @@
 // takes no room of its own, and costs no work on words. Where there are many sites most masks have one event or none: beside
 // the number of a mask of one event stands this event, so that it is read without the set.
 ghost use Rattle.std.specs.Prelude.{◌≡◌, ◌≢◌, ◌+◌, ◌<◌, ◌≤◌, ℕ, true, false, List, [], ◌∷◌, length, IfOk, is_some};
-ghost use Rattle.dcr_set.specs.EventSet.{Set, has, no_event, without_event, union, difference, first_of, first_in_both_without, first_in_three};
+ghost use Rattle.dcr_set.specs.EventSet.{Set, has, no_event, union, difference, first_at_least, first_in_both_without, first_in_three};
 ghost use Rattle.dcr_set.specs.declared.id.TheConstants.{MAX_ATOMS};
 ghost use Rattle.dcr_graph.specs.Rows.{row};
 ghost use Rattle.dcr_proj.specs.CoverValue.{atoms_of};
@@ -109,13 +109,14 @@ fn has_all(set: &EventSet, other: &EventSet) -> bool
     other.first_common_without(other, set).is_none()
 }
 
-// Whether there is another event in the set.
+// Whether there is an event behind this one in the set.
 fn has_others(set: &EventSet, e: EventId) -> bool
-    ensures { result ≡ is_some (first_of (without_event set.now e)) }
+    requires { e < length set.now }
+    ensures { result ≡ is_some (first_at_least set.now (e + 1)) }
 {
-    let mut others = set.copy();
-    others.remove(e);
-    others.first().is_some()
+    // No set has as many events as a number has room for.
+    let _room = set.room();
+    set.first_from(e.0 + 1).is_some()
 }
 
 /// The mask under a number.

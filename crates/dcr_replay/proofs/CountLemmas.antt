@@ -1,20 +1,24 @@
 -- What a run keeps after one entry more.
-use Rattle.std.proofs.Common.{◌≡◌, ℕ, ◌+◌, ◌<◌, inl, inr, Bool, true, false, cond, eqb, ◌||◌, List, [], ◌∷◌, ◌++◌, length, get_or, set, sym, ap, ◌∙◌}
-use Rattle.std.proofs.Math.Bool.{or-false}
+use Rattle.std.proofs.Common.{◌≡◌, ℕ, ◌+◌, ◌<◌, inl, inr, Bool, true, false, cond, eqb, List, [], ◌∷◌, ◌++◌, length, get_or, set, refl, sym, ap, ◌∙◌, arith}
 use Rattle.std.proofs.Math.Nat.{add-zero}
 use Rattle.std.proofs.lemmas.Bool.{cases_eq, eq-eqb, ne_eqb}
-use Rattle.std.proofs.lemmas.List.{get_or_default, get_or-set_same, get_or-set_other}
-use Rattle.std.proofs.lemmas.List.Folds.{list_any-append}
+use Rattle.std.proofs.lemmas.List.{get_or_at, get_or_default, get_or-set_same, get_or-set_other, length_push}
+use Rattle.std.proofs.lemmas.List.Elements.{All-push}
 use Rattle.std.proofs.lemmas.List.Sums.{sum_by_push}
-use Rattle.dcr_journal.specs.Run.{made_by}
+use Rattle.dcr_journal.specs.Run.{HasNoFault, made_by}
 use Rattle.dcr_journal.specs.declared.call.Entry.{Entry}
-use Rattle.dcr_replay.specs.EntryLines.{is_faulted, has_fault}
+use Rattle.dcr_journal.specs.declared.call.Outcome.{Outcome}
+use Rattle.dcr_journal.specs.declared.call.Outcome.TheVariants.{Faulted}
+use Rattle.dcr_replay.specs.EntryLines.{is_faulted}
+use Rattle.dcr_replay.specs.Stands.{ToldFault}
 
--- one entry is a fault: the last, where there was none before
-pub fault_next : (J : List Entry) (entry : Entry) → has_fault J ≡ false → has_fault (J ++ entry ∷ []) ≡ is_faulted entry.outcome
-fault_next J entry none =
-    list_any-append (λ (e : Entry). is_faulted e.outcome) J (entry ∷ []) ∙ ap (λ b. b || (is_faulted entry.outcome || false)) none
-    ∙ or-false (is_faulted entry.outcome)
+-- one of the entries is a fault: the last, where there was none before
+pub fault_next : (J : List Entry) (entry : Entry) → HasNoFault J → ToldFault (is_faulted entry.outcome) (J ++ entry ∷ [])
+fault_next J entry none = at entry.outcome refl
+  where
+    at : (outcome : Outcome) → entry.outcome ≡ outcome → ToldFault (is_faulted outcome) (J ++ entry ∷ [])
+    at Faulted is = λ sound. sound (length J) entry (omega (arith, length_push J entry)) (ap (λ (e : Entry). e.outcome) (get_or_at J entry [] entry (length J) refl) ∙ is)
+    at _ is = All-push (λ (e : Entry). e.outcome ≡ Faulted → ⊥) J entry none (λ fault. let no = sym is ∙ fault in absurd cc)
 
 -- how many entries a session has
 made_next : (session : ℕ) (J : List Entry) (entry : Entry) (b : Bool) → eqb entry.session session ≡ b → made_by session (J ++ entry ∷ []) ≡ made_by session J + cond b 1 0

@@ -1,75 +1,143 @@
--- The lines that are wanted behind the entries, one after the other.
-use Rattle.std.proofs.Common.{◌≡◌, ℕ, ◌+◌, Bool, true, false, List, [], ◌∷◌, drop, slice_get, Option, Some, None, option_map, if◌then◌else◌, refl, sym, ap, subst, ◌∙◌}
-use Rattle.std.specs.Option.{option_map_or, is_some}
-use Rattle.dcr_text.specs.Lines.{Line, says}
-use Rattle.dcr_replay.specs.EndLines.{ends_by}
+-- The lines behind the entries, one after the other.
+use Rattle.std.proofs.Common.{◌≡◌, ℕ, zero, suc, ◌+◌, ◌<◌, ◌≤◌, Bool, true, false, Decides, List, [], ◌∷◌, ◌++◌, drop, get_or, length, replicate, slice_get, take, Option, Some, None, option_map, refl, sym, ap, subst, ◌∙◌, arith}
+use Rattle.std.specs.Option.{is_some}
+use Rattle.std.specs.Str.{bytes_eq}
+use Rattle.std.proofs.lemmas.Bool.{and_parts, false≢true}
+use Rattle.std.proofs.lemmas.List.{append_assoc, drop_more, get_or-append-add, get_or-replicate, get_or_append_left, length-append, length-replicate, take_more}
+use Rattle.std.proofs.lemmas.Option.{same_Some}
+use Rattle.std.proofs.lemmas.Slice.Eq.{bytes_eq-Decides}
+use Rattle.dcr_set.specs.EventSet.{Set}
+use Rattle.dcr_graph.specs.Cause.{waits}
+use Rattle.dcr_graph.specs.GraphValue.{rules_of}
+use Rattle.dcr_graph.specs.Projection.{project}
+use Rattle.dcr_graph.specs.Rows.{row}
+use Rattle.dcr_graph.specs.Rules.{Rules}
+use Rattle.dcr_graph.specs.declared.marking.Marking.{Marking}
+use Rattle.dcr_proj.specs.CoverValue.{Owners}
+use Rattle.dcr_journal.specs.Run.{marks_at}
+use Rattle.dcr_journal.specs.declared.call.Entry.{Entry}
+use Rattle.dcr_canon.specs.Laws.{HaveNoLineEnd}
+use Rattle.dcr_reading.specs.Laws.{MeanOne}
+use Rattle.dcr_report.specs.Report.{end_lines, site_lines, site_text}
+use Rattle.dcr_text.specs.Lines.{Line, line_of, lines_of, says}
+use Rattle.dcr_replay.specs.EntryLines.{Setting, first_is_digit, last_of, names_in, rules_in}
+use Rattle.dcr_replay.specs.FirstWrong.{IsVerdict, end_kinds}
+use Rattle.dcr_replay.specs.ReportLines.{behind_of, ended, read_of}
+use Rattle.dcr_replay.specs.Stands.{Stands, TellsEnds, ends_of, sites_of}
+use Rattle.dcr_replay.specs.declared.entries.Run.{Run}
+use Rattle.dcr_replay.specs.declared.verdict.Verdict.{Verdict}
 use Rattle.dcr_replay.specs.declared.verdict.Verdict.TheVariants.{Valid, Invalid}
-use Rattle.dcr_replay.specs.declared.verdict.Wrong.{Wrong}
 use Rattle.dcr_replay.specs.declared.verdict.Wrong.TheVariants as wrong
+use Rattle.dcr_replay.proofs.CutLemmas.{ended_append}
+use Rattle.dcr_replay.proofs.ReportLemmas.{valid_told}
+use Rattle.dcr_replay.proofs.WrongLemmas.{first_cut, line_more, wrong_end}
 
--- the first line is there, has its end and is this text
-abbrev pub starts_so : List ℕ → List Line → Bool
-starts_so text lines = option_map_or (says text) (slice_get lines 0) false
+-- ---- what the lines are to be
 
-false_true : {A : Type 0} → false ≡ true → A
-false_true e = absurd (elim_bool e)
-  where
-    is_false : Bool → Type 0
-    is_false false = Unit {0}
-    is_false true = ⊥
+module _ (G : Rules) (names : List (List ℕ)) (M : Marking) where
+  -- there is one for each site
+  pub sites_many : (sites : List (List ℕ)) (owned : List Set) → length owned ≡ length sites → length (site_lines names sites (marks_at G owned M)) ≡ length sites
+  unfolding site_lines
+  sites_many [] owned many = refl
+  sites_many (site ∷ sites) [] many = absurd (omega (arith, many))
+  sites_many (site ∷ sites) (S ∷ owned) many = let more = sites_many sites owned (omega (arith, many)) in omega arith
 
-    elim_bool : false ≡ true → ⊥
-    elim_bool e = subst is_false e tt
+  -- with its marks
+  pub site_at : (sites : List (List ℕ)) (owned : List Set) (i : ℕ) → length owned ≡ length sites → i < length sites
+      → get_or (site_lines names sites (marks_at G owned M)) i [] ≡ site_text names (get_or sites i []) (project G (row owned i) M)
+  unfolding site_lines
+  site_at [] owned i many within = absurd (omega (arith, within))
+  site_at (site ∷ sites) [] i many within = absurd (omega (arith, many))
+  site_at (site ∷ sites) (S ∷ owned) zero many within = refl
+  site_at (site ∷ sites) (S ∷ owned) (suc i) many within = site_at sites owned i (omega (arith, many)) (omega (arith, within))
 
-pub ends_more : (count at : ℕ) (want : List ℕ × Wrong) (more : List (List ℕ × Wrong)) (lines : List Line) → starts_so want.0 lines ≡ true
-    → ends_by count at (want ∷ more) lines ≡ ends_by count (at + 1) more (drop 1 lines)
-unfolding ends_by
-ends_more count at want more [] so = false_true so
-ends_more count at want more (line ∷ lines) so = ap (λ b. if b then ends_by count (at + 1) more lines else Invalid at want.1) so
+module _ (run : Run) (many : length run.cover.now.owned ≡ length run.cover.now.names) where
+  pub length_sites : length (sites_of run) ≡ length run.cover.now.names
+  length_sites = sites_many (rules_of run.graph.now) run.graph.now.names run.plain.marking run.cover.now.names run.cover.now.owned many
 
-pub ends_wrong : (count at : ℕ) (want : List ℕ × Wrong) (more : List (List ℕ × Wrong)) (lines : List Line) → starts_so want.0 lines ≡ false
-    → ends_by count at (want ∷ more) lines ≡ Invalid at want.1
-unfolding ends_by
-ends_wrong count at want more [] so = refl
-ends_wrong count at want more (line ∷ lines) so = ap (λ b. if b then ends_by count (at + 1) more lines else Invalid at want.1) so
+  pub length_ends : length (ends_of run) ≡ length run.cover.now.names + 2
+  length_ends = length-append (sites_of run) (end_lines run.graph.now.names (waits (length run.graph.now.names) run.plain.marking) run.len) ∙ ap (λ n. n + 2) length_sites
 
-pub ends_extra : (count at : ℕ) (lines : List Line) → is_some (slice_get lines 0) ≡ true → ends_by count at [] lines ≡ Invalid at wrong.Extra
-unfolding ends_by
-ends_extra count at [] some = false_true some
-ends_extra count at (line ∷ lines) some = refl
+  pub site_wanted : (i : ℕ) → i < length run.cover.now.names
+      → get_or (ends_of run) i [] ≡ site_text run.graph.now.names (get_or run.cover.now.names i []) (project (rules_of run.graph.now) (row run.cover.now.owned i) run.plain.marking)
+  site_wanted i within =
+      let all = length_sites in
+      get_or_append_left (sites_of run) (end_lines run.graph.now.names (waits (length run.graph.now.names) run.plain.marking) run.len) [] i (omega arith)
+      ∙ site_at (rules_of run.graph.now) run.graph.now.names run.plain.marking run.cover.now.names run.cover.now.owned i many within
 
-pub ends_valid : (count at : ℕ) (lines : List Line) → is_some (slice_get lines 0) ≡ false → ends_by count at [] lines ≡ Valid count
-unfolding ends_by
-ends_valid count at [] none = refl
-ends_valid count at (line ∷ lines) some = false_true (sym some)
+  pub last_wanted : (i k : ℕ) → i ≡ length run.cover.now.names + k → get_or (ends_of run) i [] ≡ get_or (end_lines run.graph.now.names (waits (length run.graph.now.names) run.plain.marking) run.len) k []
+  last_wanted i k at =
+      ap (λ n. get_or (ends_of run) n []) (at ∙ ap (λ n. n + k) (sym length_sites))
+      ∙ get_or-append-add (sites_of run) (end_lines run.graph.now.names (waits (length run.graph.now.names) run.plain.marking) run.len) k []
 
--- what a test of the first line tells of the wanted line
-pub so_is : (text want : List ℕ) (lines : List Line) (told b : Bool) → text ≡ want → told ≡ starts_so text lines → told ≡ b → starts_so want lines ≡ b
-so_is text want lines told b same is so = sym (ap (λ t. starts_so t lines) same) ∙ sym is ∙ so
+pub site_kind : (n i : ℕ) → i < n → wrong.Site ≡ get_or (end_kinds n) i wrong.Extra
+site_kind n i within =
+    let long = length-replicate n wrong.Site in
+    sym (get_or_append_left (replicate n wrong.Site) (wrong.Verdict ∷ wrong.End ∷ []) wrong.Extra i (omega arith) ∙ get_or-replicate n i wrong.Site wrong.Extra within)
 
--- the wanted verdict and end
-abbrev pub last_wanted : List ℕ → List ℕ → List (List ℕ × Wrong)
-last_wanted verdict end = (verdict, wrong.Verdict) ∷ ((end, wrong.End) ∷ [])
+pub last_kind : (n i k : ℕ) → i ≡ n + k → get_or (wrong.Verdict ∷ wrong.End ∷ []) k wrong.Extra ≡ get_or (end_kinds n) i wrong.Extra
+last_kind n i k at =
+    sym (ap (λ m. get_or (end_kinds n) m wrong.Extra) (at ∙ ap (λ m. m + k) (sym (length-replicate n wrong.Site)))
+    ∙ get_or-append-add (replicate n wrong.Site) (wrong.Verdict ∷ wrong.End ∷ []) k wrong.Extra)
 
-pub last_first : (count at : ℕ) (verdict end : List ℕ) (lines : List Line) → starts_so verdict lines ≡ false
-    → Invalid at wrong.Verdict ≡ ends_by count at (last_wanted verdict end) lines
-last_first count at verdict end lines so = sym (ends_wrong count at (verdict, wrong.Verdict) ((end, wrong.End) ∷ []) lines so)
+-- ---- which line comes next
 
-pub last_second : (count at : ℕ) (verdict end : List ℕ) (lines rest : List Line) → starts_so verdict lines ≡ true → rest ≡ drop 1 lines → starts_so end rest ≡ false
-    → Invalid (at + 1) wrong.End ≡ ends_by count at (last_wanted verdict end) lines
-last_second count at verdict end lines rest so same another =
-    sym (ends_more count at (verdict, wrong.Verdict) ((end, wrong.End) ∷ []) lines so
-    ∙ ap (ends_by count (at + 1) ((end, wrong.End) ∷ [])) (sym same) ∙ ends_wrong count (at + 1) (end, wrong.End) [] rest another)
+pub says_told : (text : List ℕ) (line : Line) → says text line ≡ true → line ≡ line_of text true
+says_told text line e =
+    let parts = and_parts line.ended (bytes_eq line.text text) e in
+    ap (λ b. line_of line.text b) parts.0 ∙ ap (λ t. line_of t true) ((bytes_eq-Decides line.text text).0 parts.1)
 
-pub last_both : (count at : ℕ) (verdict end : List ℕ) (lines rest behind : List Line) → starts_so verdict lines ≡ true → rest ≡ drop 1 lines
-    → starts_so end rest ≡ true → behind ≡ drop 1 rest
-    → ends_by count (at + 1 + 1) [] behind ≡ ends_by count at (last_wanted verdict end) lines
-last_both count at verdict end lines rest behind so same again also =
-    sym (ends_more count at (verdict, wrong.Verdict) ((end, wrong.End) ∷ []) lines so
-    ∙ ap (ends_by count (at + 1) ((end, wrong.End) ∷ [])) (sym same) ∙ ends_more count (at + 1) (end, wrong.End) [] rest again
-    ∙ ap (ends_by count (at + 1 + 1) []) (sym also))
+-- whether the first line is this text
+pub takes_told : (text : List ℕ) (lines : List Line) (line : Line) (told : Bool) → told ≡ says text line → Some line ≡ slice_get lines 0 → Decides told (slice_get lines 0 ≡ Some (line_of text true))
+takes_told text lines line told is there = (
+  λ yes. sym there ∙ ap Some (says_told text line (sym is ∙ yes)),
+  λ same. is ∙ ap (says text) (same_Some _ _ (there ∙ same)) ∙ (bytes_eq-Decides text text).1 refl,
+)
 
--- a line is there where one was found
-pub is_there : {A B : Type 0} (f : A → B) (o : Option A) (found : Option B) (told b : Bool) → option_map f o ≡ found → told ≡ is_some o → told ≡ b → is_some found ≡ b
-is_there f None found told b same is so = ap is_some (sym same) ∙ sym is ∙ so
-is_there f (Some a) found told b same is so = ap is_some (sym same) ∙ sym is ∙ so
+-- whether there is one
+pub is_left : {A : Type 0} (f : A → Line) (o : Option A) (lines : List Line) (told : Bool) → option_map f o ≡ slice_get lines 0 → told ≡ is_some o → (told ≡ true → slice_get lines 0 ≡ None → ⊥) × (told ≡ false → lines ≡ [])
+is_left f None [] told e is = (λ yes none. false≢true (sym is ∙ yes), λ no. refl)
+is_left f None (line ∷ lines) told e is = absurd cc
+is_left f (Some a) [] told e is = absurd cc
+is_left f (Some a) (line ∷ lines) told e is = (λ yes none. absurd cc, λ no. absurd (false≢true (sym no ∙ is)))
+
+-- the first of those that are to come
+pub next_wanted : (texts : List (List ℕ)) (i : ℕ) → i < length texts → slice_get (ended (drop i texts)) 0 ≡ Some (line_of (get_or texts i []) true)
+next_wanted texts i within = ap (λ (l : List (List ℕ)). slice_get (ended l) 0) (drop_more texts i [] within)
+
+-- it comes
+pub next_taken : (texts : List (List ℕ)) (i : ℕ) (all lines rest : List Line) → i < length texts → slice_get lines 0 ≡ Some (line_of (get_or texts i []) true) → rest ≡ drop 1 lines
+    → all ≡ ended (take i texts) ++ lines → all ≡ ended (take (i + 1) texts) ++ rest
+next_taken texts i all lines rest within there taken e =
+    line_more (take i texts) (get_or texts i []) all rest
+    (e ∙ ap (λ (l : List Line). ended (take i texts) ++ l) (first_cut lines (line_of (get_or texts i []) true) there ∙ ap (λ (l : List Line). line_of (get_or texts i []) true ∷ l) (sym taken)))
+    ∙ ap (λ (l : List (List ℕ)). ended l ++ rest) (sym (take_more texts i [] within))
+
+-- ---- the verdict
+
+ends_are : (S : Setting) (J : List Entry) (run : Run) → Stands S J run → ends_of run ≡ behind_of S J
+ends_are S J run stands =
+    let Ends : Rules → List (List ℕ) → Owners → Marking → ℕ → List (List ℕ) = λ G names C M n. site_lines names C.names (marks_at G C.owned M) ++ end_lines names (waits G.atoms M) n in
+    ap (λ G. Ends G run.graph.now.names run.cover.now run.plain.marking run.len) stands.over.rules
+    ∙ ap (λ names. Ends (rules_in S) names run.cover.now run.plain.marking run.len) stands.over.names
+    ∙ ap (λ C. Ends (rules_in S) (names_in S) C run.plain.marking run.len) stands.over.cover
+    ∙ ap (λ M. Ends (rules_in S) (names_in S) S.cover M run.len) stands.marking
+    ∙ ap (Ends (rules_in S) (names_in S) S.cover (last_of S J)) stands.counted
+
+pub ends_told : HaveNoLineEnd → MeanOne → (S : Setting) (J : List Entry) (run : Run) → Stands S J run → (bytes : List ℕ) (lines : List Line) → lines_of bytes ≡ ended (read_of S J) ++ lines
+    → first_is_digit lines ≡ false → (verdict : Verdict) → TellsEnds run lines verdict → IsVerdict bytes verdict
+ends_told no_ends one S J run stands bytes lines cut bare (Valid count) told =
+    subst (λ n. IsVerdict bytes (Valid n)) (sym (told.0 ∙ stands.counted))
+    (valid_told bytes S J stands.legal (cut ∙ ap (λ (l : List Line). ended (read_of S J) ++ l) (told.1 ∙ ap ended (ends_are S J run stands)) ∙ sym (ended_append (read_of S J) (behind_of S J))))
+ends_told no_ends one S J run stands bytes lines cut bare (Invalid number kind) told =
+    let i = told.i in let ends = behind_of S J in let same = ends_are S J run stands in let at = told.at in
+    wrong_end no_ends one S J i bytes told.rest
+    (record {
+      legal = stands.legal;
+      within = subst (λ (l : List (List ℕ)). i ≤ length l) same told.within;
+      cut = cut ∙ ap (λ (l : List Line). ended (read_of S J) ++ l) (told.cut ∙ ap (λ (l : List (List ℕ)). ended (take i l) ++ told.rest) same)
+          ∙ sym (append_assoc (ended (read_of S J)) (ended (take i ends)) told.rest) ∙ ap (λ (l : List Line). l ++ told.rest) (sym (ended_append (read_of S J) (take i ends)));
+    })
+    (λ none. sym (ap first_is_digit (told.cut ∙ ap (λ n. ended (take n (ends_of run)) ++ told.rest) none)) ∙ bare)
+    number kind (omega (arith, at, stands.counted)) (told.kind_is ∙ ap (λ (C : Owners). get_or (end_kinds (length C.names)) i wrong.Extra) stands.over.cover)
+    (λ e. told.other (e ∙ ap (λ (l : List (List ℕ)). slice_get (ended (drop i l)) 0) (sym same)))

@@ -1,17 +1,13 @@
 pub mod LinesLemmas
 pub mod TrackedLemmas
-pub mod EndLemmas
 pub mod CountLemmas
-pub mod SiteLineLemmas
-pub mod CheckLemmas
-mod AnsweredLemmas
-mod LawLemmasLines
-mod LawLemmasTexts
-mod LawLemmasHead
-mod LawLemmasEnds
-mod LawLemmasEntries
-mod LawLemmasRuns
-mod LawLemmas
-mod LawLemmasOne
-mod LawLemmasWitness
-mod LawLemmasLeast
+pub mod CutLemmas
+pub mod OneLineLemmas
+pub mod HeadLemmas
+pub mod WitnessLemmas
+pub mod NextLemmas
+pub mod ReportLemmas
+pub mod WrongLemmas
+pub mod EndLemmas
+pub mod AnsweredLemmas
+mod OneLemmas

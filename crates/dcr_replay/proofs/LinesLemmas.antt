@@ -5,7 +5,7 @@ use Rattle.dcr_text.specs.Lines.{pieces_of}
 use Rattle.dcr_line.proofs.PiecesLemmas.{pieces_at, pieces_whole}
 use Rattle.dcr_text.specs.Lines.{line_of, lines_in, lines_of, unended}
 
-lines_more : (text : List ℕ) (more : List (List ℕ)) → 0 < length more → lines_in (text ∷ more) ≡ line_of text true ∷ lines_in more
+pub lines_more : (text : List ℕ) (more : List (List ℕ)) → 0 < length more → lines_in (text ∷ more) ≡ line_of text true ∷ lines_in more
 unfolding lines_in
 lines_more text [] some = absurd (omega (arith, some))
 lines_more text (next ∷ pieces) some = refl

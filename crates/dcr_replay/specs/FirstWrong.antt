@@ -1,63 +1,50 @@
--- The first line of a text that is wrong in a report of a legal history, with its kind; or, where there is none, how
--- many entries the history has.
-use Rattle.std.specs.Prelude.{◌≡◌, ℕ, ◌+◌, List, [], ◌∷◌, ◌++◌, length, drop, Option, Some, None, Result, Ok, Err, MatchOption, if◌then◌else◌}
-use Rattle.dcr_nest.specs.Nest.{Nest}
-use Rattle.dcr_nest.specs.FlatRelation.{flat_relation}
-use Rattle.dcr_nest.specs.declared.node.Version.{Version}
-use Rattle.dcr_proj.specs.CoverValue.{Owners}
-use Rattle.dcr_graph.specs.Rules.{Rules}
-use Rattle.dcr_graph.specs.declared.marking.Marking.{Marking}
+-- What is found of a text: that it is the report of a legal history, or which of its lines is the first with which no report
+-- begins, and what is expected there.
+use Rattle.std.specs.Prelude.{◌≡◌, ℕ, ◌+◌, ◌-◌, ◌≤◌, true, false, List, [], ◌∷◌, ◌++◌, length, replicate, slice_get, slice_index_or, take, Some}
 use Rattle.dcr_journal.specs.declared.call.Entry.{Entry}
-use Rattle.dcr_reading.specs.Accepted.{atom_names}
 use Rattle.dcr_text.specs.Lines.{Line, lines_of}
-use Rattle.dcr_replay.specs.HeadLines.{version_at, IsGraphAt, IsCoverAt, opening_at}
-use Rattle.dcr_replay.specs.EntryLines.{Setting, entry_at, begins_with_digit}
-use Rattle.dcr_replay.specs.EndLines.{ends_after}
+use Rattle.dcr_replay.specs.EntryLines.{IsRun, IsWrongNext, Setting, begins_with_digit, first_is_digit}
+use Rattle.dcr_replay.specs.Laws.{IsReport}
+use Rattle.dcr_replay.specs.LeastWrong.{IsLeastWrong}
+use Rattle.dcr_replay.specs.ReportLines.{behind_of, ended, read_of}
 use Rattle.dcr_replay.specs.declared.verdict.Verdict.{Verdict}
-use Rattle.dcr_replay.specs.declared.verdict.Verdict.TheVariants.{Invalid}
+use Rattle.dcr_replay.specs.declared.verdict.Verdict.TheVariants.{Valid, Invalid}
 use Rattle.dcr_replay.specs.declared.verdict.Wrong.{Wrong}
 use Rattle.dcr_replay.specs.declared.verdict.Wrong.TheVariants as wrong
 
--- the verdict from the entry that was found, or the line of this number is wrong
-abbrev pub with_entry : ℕ → Result Entry Wrong → (Entry → Verdict) → Verdict
-with_entry at (Ok entry) next = next entry
-with_entry at (Err kind) next = Invalid at kind
+-- the kinds of the lines before the entries
+abbrev pub head_kinds : List Wrong
+head_kinds = wrong.Head ∷ wrong.Graph ∷ wrong.Cover ∷ wrong.Opening ∷ []
 
--- the verdict over the lines behind the entries J: a line that begins with a digit is taken as an entry, and the first
--- other one begins the end
-unfoldable pub run_from : Setting → List Entry → List Line → Verdict
-run_from S J [] = ends_after S J []
-run_from S J (line ∷ lines) =
-    if begins_with_digit line.text
-    then with_entry (5 + length J) (entry_at S J line) (λ entry. run_from S (J ++ entry ∷ []) lines)
-    else ends_after S J (line ∷ lines)
+-- the kinds of the lines behind them, with so many sites
+abbrev pub end_kinds : ℕ → List Wrong
+end_kinds sites = replicate sites wrong.Site ++ (wrong.Verdict ∷ wrong.End ∷ [])
 
-abbrev pub setting : Rules → List (List ℕ) → Owners → Marking → Setting
-setting G names C M = record { rules = G; names = names; cover = C; opening = M }
+-- the lines of the text are those before the entries, the entries J of a legal history, the first i of the lines behind them, and
+-- then what is left
+pub record IsReadTo (bytes : List ℕ) (S : Setting) (J : List Entry) (i : ℕ) (rest : List Line) : Type 0 where
+  pub legal : IsRun S J
+  pub within : i ≤ length (behind_of S J)
+  pub cut : lines_of bytes ≡ ended (read_of S J ++ take i (behind_of S J)) ++ rest
 
--- the verdict over the lines behind the opening marking, where one was found
-abbrev pub opened : Rules → List (List ℕ) → Owners → List Line → Option Marking → Verdict
-opened G names C lines None = Invalid 4 wrong.Opening
-opened G names C lines (Some M) = run_from (setting G names C M) [] lines
+-- By which kind the next line is wrong there. A line that begins with a digit is taken as an entry where none of the lines behind
+-- the entries has come yet, and is wrong as such. Else the next of these lines is expected, and behind the last of them nothing more.
+pub data IsWrongBehind (S : Setting) (J : List Entry) (i : ℕ) (rest : List Line) (kind : Wrong) : Type 0 where
+  of_entry : i ≡ 0 → (line : Line) → slice_get rest 0 ≡ Some line → begins_with_digit line.text ≡ true → IsWrongNext S J line kind → IsWrongBehind S J i rest kind
+  of_end : (i ≡ 0 → first_is_digit rest ≡ false) → kind ≡ slice_index_or (end_kinds (length S.cover.names)) i wrong.Extra → IsWrongBehind S J i rest kind
 
--- from the fourth line on
-abbrev pub from_opening : Rules → List (List ℕ) → Owners → List Line → Verdict
-from_opening G names C lines = opened G names C (drop 1 lines) (opening_at names lines)
+-- the kind is what is expected in the place of the line of this number, where the lines before it begin a report
+pub data IsExpected (bytes : List ℕ) (line : ℕ) (kind : Wrong) : Type 0 where
+  in_head : line ≤ 4 → kind ≡ slice_index_or head_kinds (line - 1) wrong.Head → IsExpected bytes line kind
+  behind_head : (S : Setting) (J : List Entry) (i : ℕ) (rest : List Line) → IsReadTo bytes S J i rest → line ≡ 5 + length J + i → IsWrongBehind S J i rest kind
+      → IsExpected bytes line kind
 
--- from the third line on
-abbrev pub FromCover : Nest → List Line → Verdict → Type 0
-FromCover N lines verdict = (found : Option Owners) × IsCoverAt N lines found
-    × MatchOption found (verdict ≡ Invalid 3 wrong.Cover) (λ C. verdict ≡ from_opening (flat_relation N) (atom_names N) C (drop 1 lines))
-
--- from the second line on
-abbrev pub FromGraph : Version → List Line → Verdict → Type 0
-FromGraph version lines verdict = (found : Option Nest) × IsGraphAt version lines found
-    × MatchOption found (verdict ≡ Invalid 2 wrong.Graph) (λ N. FromCover N (drop 1 lines) verdict)
-
--- from the first line on
-abbrev pub FromHead : List Line → Verdict → Type 0
-FromHead lines verdict = MatchOption (version_at lines) (verdict ≡ Invalid 1 wrong.Head) (λ version. FromGraph version (drop 1 lines) verdict)
+-- the line of this number is the first wrong one, and this kind is expected there
+pub record IsFirstWrong (bytes : List ℕ) (line : ℕ) (kind : Wrong) : Type 0 where
+  pub least : IsLeastWrong bytes line
+  pub expected : IsExpected bytes line kind
 
 -- the verdict over a text
 abbrev pub IsVerdict : List ℕ → Verdict → Type 0
-IsVerdict bytes verdict = FromHead (lines_of bytes) verdict
+IsVerdict bytes (Valid count) = IsReport bytes count
+IsVerdict bytes (Invalid line kind) = IsFirstWrong bytes line kind

@@ -1,5 +1,5 @@
 -- The four lines before the entries.
-use Rattle.std.specs.Prelude.{◌≡◌, ◌<◌, ⊤, ℕ, List, length, drop, codes, nat_eq, Option, Some, None, option_map, option_and_then, slice_get, MatchOption, if◌then◌else◌}
+use Rattle.std.specs.Prelude.{◌≡◌, ◌<◌, ⊤, ℕ, List, [], ◌∷◌, ◌++◌, length, drop, codes, nat_eq, Option, Some, None, option_map, option_and_then, slice_get, MatchOption, if◌then◌else◌}
 use Rattle.std.specs.List.{starts_with}
 use Rattle.std.specs.Str.{bytes_eq}
 use Rattle.dcr_graph.specs.declared.marking.Marking.{Marking}
@@ -10,7 +10,9 @@ use Rattle.dcr_nest.specs.declared.node.Version.TheVariants.{V1, V2}
 use Rattle.dcr_proj.specs.CoverValue.{Owners}
 use Rattle.dcr_line.specs.MarkLine.{mark_in}
 use Rattle.dcr_report.specs.Report.{version_text}
-use Rattle.dcr_reading.specs.Accepted.{IsGraphIn, IsCoverIn}
+use Rattle.dcr_canon.specs.CoverText.{cover_text}
+use Rattle.dcr_canon.specs.GraphText.{graph_text}
+use Rattle.dcr_reading.specs.Accepted.{IsGraphIn, IsCoverIn, atom_names}
 use Rattle.dcr_reading.specs.declared.value.TheConstants.{MAX_BYTES}
 use Rattle.dcr_text.specs.Lines.{Line, whole}
 
@@ -50,3 +52,14 @@ IsCoverAt N lines found = MatchOption (first_behind (codes "cover ") lines) (fou
 -- the marking of the atoms with these names that the first line tells
 abbrev pub opening_at : List (List ℕ) → List Line → Option Marking
 opening_at names lines = option_map as_marking (option_and_then (mark_in names) (first_behind (codes "open ") lines))
+
+-- the lines that tell this graph, and this cover of it
+abbrev pub graph_line : Nest → List ℕ
+graph_line N = codes "graph " ++ graph_text N
+
+abbrev pub cover_line : Nest → Owners → List ℕ
+cover_line N C = codes "cover " ++ cover_text (atom_names N) C
+
+-- the texts of the first three lines
+abbrev pub case_head : Nest → Owners → List (List ℕ)
+case_head N C = version_text N.version ∷ graph_line N ∷ cover_line N C ∷ []

@@ -1,10 +1,7 @@
--- Which line of a text is the first wrong one, in the words of reports.
+-- How a text begins as reports do, and which of its lines is the first wrong one.
 use Rattle.std.specs.Prelude.{◌≡◌, ℕ, ◌+◌, ◌<◌, ◌≤◌, List, length, take}
 use Rattle.dcr_text.specs.Lines.{lines_of}
-use Rattle.dcr_replay.specs.FirstWrong.{IsVerdict}
 use Rattle.dcr_replay.specs.Laws.{IsReport}
-use Rattle.dcr_replay.specs.declared.verdict.Verdict.TheVariants.{Invalid}
-use Rattle.dcr_replay.specs.declared.verdict.Wrong.{Wrong}
 
 -- the first lines of the text, so many, are the first lines of the report of a legal history
 pub record BeginsReport (bytes : List ℕ) (lines : ℕ) : Type 0 where
@@ -21,7 +18,3 @@ pub record IsLeastWrong (bytes : List ℕ) (line : ℕ) : Type 0 where
   pub before : (lines : ℕ) → lines < line → BeginsReport bytes lines
   pub here : BeginsReport bytes line → ⊥
   pub reached : line ≤ length (lines_of bytes) + 1
-
--- the line that is told is the first wrong one
-abbrev pub LeastIsTold : Type 0
-LeastIsTold = (bytes : List ℕ) (line : ℕ) (kind : Wrong) → IsVerdict bytes (Invalid line kind) → IsLeastWrong bytes line

@@ -1,7 +1,7 @@
 pub mod LinesModel
 pub mod HeadLines
 pub mod EntryLines
-pub mod EndLines
+pub mod ReportLines
 pub mod FirstWrong
 pub mod Laws
 pub mod OneVerdict

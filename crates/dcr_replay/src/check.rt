@@ -1,15 +1,20 @@
-ghost use Rattle.std.specs.Prelude.{◌≡◌, [], codes, drop, length, IfOk, None, Some, Ok};
+ghost use Rattle.std.specs.Prelude.{◌≡◌, [], ◌∷◌, codes, drop, length, IfOk, None, Some, Ok};
 ghost use Rattle.std.specs.List.{All};
-ghost use Rattle.dcr_graph.specs.GraphValue.{rules_of};
 ghost use Rattle.dcr_graph.specs.Pairs.{first_clash};
 ghost use Rattle.dcr_graph.specs.Projection.{HasRoom};
 ghost use Rattle.dcr_nest.specs.FlatRelation.{IsFlattening, flat_relation};
+ghost use Rattle.dcr_nest.specs.Nest.{Nest};
 ghost use Rattle.dcr_line.specs.DirectoryModel.{named};
+ghost use Rattle.dcr_reading.specs.Accepted.{IsAcceptedGraph};
+ghost use Rattle.dcr_report.specs.Report.{version_text};
 ghost use Rattle.dcr_text.specs.Lines.{lines_of};
-ghost use Rattle.dcr_replay.specs.HeadLines.{TellsNoText, opening_at, version_at};
+ghost use Rattle.dcr_replay.specs.HeadLines.{TellsNoText, case_head, graph_line, opening_at, version_at};
 ghost use Rattle.dcr_replay.specs.declared.verdict.Verdict.TheVariants.{Invalid};
 ghost use Rattle.dcr_replay.specs.declared.verdict.Wrong.TheVariants as wrong;
-ghost use Rattle.dcr_replay.specs.FirstWrong.{IsVerdict, FromGraph, FromCover, from_opening, run_from, setting};
+ghost use Rattle.dcr_replay.specs.EntryLines.{Setting};
+ghost use Rattle.dcr_replay.specs.FirstWrong.{IsVerdict};
+ghost use Rattle.dcr_replay.specs.ReportLines.{head_of};
+ghost use Rattle.dcr_replay.specs.Stands.{IsAcceptedCase, IsOver, TellsOf};
 ghost use Rattle.dcr_proj.specs.CoverValue.{IsCover};
 
 use crate::ends::check_ends;
@@ -17,10 +22,12 @@ use crate::entries::Run;
 use crate::head::{read_cover, read_graph, read_opening, read_version};
 use crate::lines::Lines;
 use crate::verdict::{Verdict, Wrong};
+use dcr_canon::canonical_texts_have_no_line_end;
 use dcr_graph::{Graph, GraphStop, Marking};
 use dcr_line::Directory;
 use dcr_nest::{Nested, Version};
 use dcr_proj::Cover;
+use dcr_reading::accepted_texts_mean_one;
 use dcr_set::NoMemory;
 use std::alloc::Global;
 
@@ -29,11 +36,13 @@ use std::alloc::Global;
 /// engine of the whole graph. `NoMemory` where memory could not be had; a wrong first line takes none, nor does a
 /// second one that tells no text of a graph, or a longer one than each canonical text.
 pub fn check_report(alloc: Global, bytes: &[u8]) -> Result<Verdict, NoMemory>
-    ensures verdict { IfOk result (λ verdict. IsVerdict bytes.now verdict) }
+    ensures verdict { IfOk result (IsVerdict bytes.now) }
     ensures head { version_at (lines_of bytes.now) ≡ None → result ≡ Ok (Invalid 1 wrong.Head) }
     ensures no_text { (version : Version) → version_at (lines_of bytes.now) ≡ Some version
         → TellsNoText (codes "graph ") (drop 1 (lines_of bytes.now)) → result ≡ Ok (Invalid 2 wrong.Graph) }
 {
+    canonical_texts_have_no_line_end();
+    accepted_texts_mean_one();
     let mut lines = Lines::of(bytes);
     let Some(version) = read_version(&lines) else {
         return Ok(Verdict::Invalid {
@@ -47,7 +56,7 @@ pub fn check_report(alloc: Global, bytes: &[u8]) -> Result<Verdict, NoMemory>
 
 // The verdict from the line of the graph on.
 fn check_graph(alloc: Global, version: Version, lines: &mut Lines<'_>) -> Result<Verdict, NoMemory>
-    ensures verdict { IfOk result (λ verdict. FromGraph version lines.old verdict) }
+    ensures verdict { IfOk result (TellsOf (version_text version ∷ []) lines.old) }
     ensures no_text { TellsNoText (codes "graph ") lines.old → result ≡ Ok (Invalid 2 wrong.Graph) }
 {
     let Some(nested) = read_graph(alloc, lines, version)? else {
@@ -80,8 +89,9 @@ fn check_cover(
     graph: &Graph,
     lines: &mut Lines<'_>,
 ) -> Result<Verdict, NoMemory>
-    requires { IsFlattening nested.now graph.now }
-    ensures verdict { IfOk result (λ verdict. FromCover nested.now lines.old verdict) }
+    requires flat { IsFlattening nested.now graph.now }
+    requires accepted { IsAcceptedGraph nested.now.version nested.now }
+    ensures verdict { IfOk result (TellsOf (version_text nested.now.version ∷ graph_line nested.now ∷ []) lines.old) }
     ensures no_text { TellsNoText (codes "cover ") lines.old → result ≡ Ok (Invalid 3 wrong.Cover) }
 {
     let Some(cover) = read_cover(alloc, lines, nested, graph)? else {
@@ -104,7 +114,8 @@ fn check_history(
 ) -> Result<Verdict, NoMemory>
     requires rooms { All (λ set. length set ≡ length graph.now.names) cover.now.owned }
     requires cover { IsCover cover.now }
-    ensures { IfOk result (λ verdict. verdict ≡ from_opening (rules_of graph.now) graph.now.names cover.now lines.old) }
+    ensures { IfOk result (λ verdict. (N : Nest) → IsAcceptedCase N graph.now cover.now
+        → TellsOf (case_head N cover.now) lines.old verdict) }
 {
     let directory = Directory::new(alloc, graph, cover)?;
     check_opening(alloc, graph, cover, &directory, lines)
@@ -121,7 +132,8 @@ fn check_opening(
     requires directory { directory.now ≡ named cover.now.names graph.now.names }
     requires rooms { All (λ set. length set ≡ length graph.now.names) cover.now.owned }
     requires cover { IsCover cover.now }
-    ensures verdict { IfOk result (λ verdict. verdict ≡ from_opening (rules_of graph.now) graph.now.names cover.now lines.old) }
+    ensures verdict { IfOk result (λ verdict. (N : Nest) → IsAcceptedCase N graph.now cover.now
+        → TellsOf (case_head N cover.now) lines.old verdict) }
     ensures no_marking { opening_at graph.now.names lines.old ≡ None → result ≡ Ok (Invalid 4 wrong.Opening) }
 {
     let Some(opening) = read_opening(lines, directory) else {
@@ -147,15 +159,16 @@ fn check_run<'g>(
     requires rooms { All (λ set. length set ≡ length graph.now.names) cover.now.owned }
     requires cover { IsCover cover.now }
     requires opening { HasRoom (length graph.now.names) opening.now }
-    ensures { IfOk result (λ verdict. verdict
-        ≡ run_from (setting (rules_of graph.now) graph.now.names cover.now opening.now) [] lines.old) }
+    ensures { IfOk result (λ verdict. (S : Setting) → IsOver S graph.now cover.now → opening.now ≡ S.opening
+        → TellsOf (head_of S) lines.old verdict) }
 {
     let mut run = Run::open(alloc, graph, cover, directory, opening)?;
+    let mut room = Vec::new(alloc);
     while let Some(line) = lines.first() {
         if !line.begins_with_digit() {
             break;
         }
-        if let Some(kind) = run.take(alloc, line)? {
+        if let Some(kind) = run.take(line, &mut room)? {
             return Ok(Verdict::Invalid {
                 line: run.len + 5,
                 kind,

@@ -1,18 +1,14 @@
 // The lines behind the entries.
-ghost use Rattle.std.specs.Prelude.{◌≡◌, ◌+◌, ◌++◌, ◌<◌, [], ◌∷◌, List, codes, decimal, length, drop, IfOk, slice_get, slice_index_or, false};
-ghost use Rattle.std.specs.Option.{ForSome, option_map_or};
-ghost use Rattle.dcr_journal.specs.declared.call.Entry.{Entry};
-ghost use Rattle.dcr_graph.specs.Cause.{waits};
+ghost use Rattle.std.specs.Prelude.{◌≡◌, ◌+◌, ◌++◌, ◌<◌, [], List, codes, decimal, Decides, length, drop, IfOk, slice_index_or, slice_get, Some, true};
+ghost use Rattle.std.specs.Option.{ForSome};
 ghost use Rattle.dcr_graph.specs.GraphValue.{rules_of};
 ghost use Rattle.dcr_graph.specs.Projection.{project, FitsAtoms};
 ghost use Rattle.dcr_graph.specs.Rows.{row};
 ghost use Rattle.dcr_report.specs.Report.{site_text, verdict_text};
-ghost use Rattle.dcr_text.specs.Lines.{says};
-ghost use Rattle.dcr_replay.specs.EndLines.{ends_by, ends_after};
-ghost use Rattle.dcr_replay.specs.EntryLines.{Setting};
-ghost use Rattle.dcr_replay.specs.Stands.{IsSound, Stands};
+ghost use Rattle.dcr_text.specs.Lines.{Line, line_of};
+ghost use Rattle.dcr_replay.specs.ReportLines.{ended};
+ghost use Rattle.dcr_replay.specs.Stands.{IsSound, TellsEnds, sites_of};
 ghost use Rattle.dcr_replay.specs.declared.verdict.Verdict.TheVariants.{Invalid};
-ghost use Rattle.dcr_replay.specs.declared.verdict.Wrong.TheVariants as wrong;
 
 use crate::entries::Run;
 use crate::lines::Lines;
@@ -30,8 +26,7 @@ pub(crate) fn check_ends(
     lines: &mut Lines<'_>,
 ) -> Result<Verdict, NoMemory>
     requires { IsSound run.now }
-    ensures { IfOk result (λ verdict. (S : Setting) (J : List Entry) → Stands S J run.now
-        → verdict ≡ ends_after S J lines.old) }
+    ensures { IfOk result (TellsEnds run.now lines.old) }
 {
     let first = run.len + 5;
     let sites = run.cover.site_names().len();
@@ -64,9 +59,8 @@ fn check_last(
 ) -> Result<Verdict, NoMemory>
     requires sound { IsSound run.now }
     requires number { number < 200100 }
-    ensures { IfOk result (λ verdict. verdict ≡ ends_by run.now.len number
-        ((verdict_text run.now.graph.now.names (waits (length run.now.graph.now.names) run.now.plain.marking), wrong.Verdict)
-        ∷ (codes "end " ++ decimal run.now.len, wrong.End) ∷ []) lines.old) }
+    ensures { IfOk result (λ verdict. (all : List Line) → all ≡ ended (sites_of run.now) ++ lines.old
+        → number ≡ 5 + run.now.len + length run.now.cover.now.names → TellsEnds run.now all verdict) }
 {
     if !takes(lines, &verdict_line(alloc, run.plain.waits(), run.graph)?) {
         return Ok(wrong(number, Wrong::Verdict));
@@ -88,7 +82,7 @@ fn wrong(line: u32, kind: Wrong) -> Verdict
 
 // Takes the first line, and tells whether there was one that has its end and is this text.
 fn takes(lines: &mut Lines<'_>, text: &[u8]) -> bool
-    ensures says { result ≡ option_map_or (says text.now) (slice_get lines.old 0) false }
+    ensures says { Decides result (slice_get lines.old 0 ≡ Some (line_of text.now true)) }
     ensures taken { lines.new ≡ drop 1 lines.old }
 {
     let Some(line) = lines.first() else {

@@ -1,5 +1,5 @@
 // The lines of entries, checked one after the other.
-ghost use Rattle.std.specs.Prelude.{◌≡◌, ◌+◌, ◌<◌, ◌≤◌, ◌||◌, nat_le, [], ◌∷◌, ◌++◌, List, length, IfOk, IfSome, Bool, false, slice_index_or, None, Some, Ok};
+ghost use Rattle.std.specs.Prelude.{◌≡◌, ◌+◌, ◌<◌, ◌≤◌, ◌||◌, nat_le, [], ◌∷◌, ◌++◌, List, length, IfOk, IfSome, MatchOption, Decides, Bool, IsTrue, false, slice_index_or, None, Some, Ok};
 ghost use Rattle.std.specs.List.{All};
 ghost use Rattle.std.specs.Str.{bytes_eq};
 ghost use Rattle.dcr_graph.specs.GraphValue.{rules_of};
@@ -7,13 +7,11 @@ ghost use Rattle.dcr_graph.specs.Projection.{HasRoom};
 ghost use Rattle.dcr_journal.specs.Run.{IsInRange, stepped_by};
 ghost use Rattle.dcr_journal.specs.declared.call.Entry.{Entry};
 ghost use Rattle.dcr_line.specs.DirectoryModel.{named};
-ghost use Rattle.dcr_line.specs.Known.{AreNames};
 ghost use Rattle.dcr_line.specs.Fits.{FitsEntry};
 ghost use Rattle.dcr_line.specs.Line.{entry_text};
 ghost use Rattle.dcr_text.specs.Lines.{line_of};
-ghost use Rattle.dcr_replay.specs.EntryLines.{Setting, is_done, is_faulted, entry_after, entry_at, is_answered, answer_after};
-ghost use Rattle.dcr_replay.specs.FirstWrong.{setting};
-ghost use Rattle.dcr_replay.specs.Stands.{IsSound, MayCome, Stands, Takes};
+ghost use Rattle.dcr_replay.specs.EntryLines.{IsAnswered, IsNext, IsWrongNext, MayCome, Setting, is_done, is_faulted};
+ghost use Rattle.dcr_replay.specs.Stands.{HasPlace, IsOver, IsSound, Stands, Takes};
 ghost use Rattle.dcr_proj.specs.CoverValue.{IsCover};
 ghost use Rattle.dcr_replay.specs.declared.verdict.Wrong.TheVariants as wrong;
 
@@ -65,7 +63,7 @@ impl<'g, 'n> Run<'g, 'n> {
         requires cover { IsCover cover.now }
         requires opening { HasRoom (length graph.now.names) opening.now }
         ensures sound { IfOk result IsSound }
-        ensures stands { IfOk result (Stands (setting (rules_of graph.now) graph.now.names cover.now opening.now) []) }
+        ensures stands { IfOk result (λ run. (S : Setting) → IsOver S graph.now cover.now → opening.now ≡ S.opening → Stands S [] run) }
     {
         let tracked = tracked_by_each(alloc, graph, cover)?;
         let plain = Plain::new(alloc, graph, opening)?;
@@ -83,55 +81,63 @@ impl<'g, 'n> Run<'g, 'n> {
     }
 
     /// Takes the entry that a line tells. Where the answer is a kind, the line is wrong by it, and nothing was
-    /// taken. A line that tells no entry which may come next is refused, whatever memory there is.
-    pub(crate) fn take(&mut self, alloc: Global, line: Line<'_>) -> Result<Option<Wrong>, NoMemory>
+    /// taken. A line that tells no entry which may come next is refused, whatever memory there is. The room is where
+    /// texts are made that the line is compared with; what is in it before and after says nothing.
+    pub(crate) fn take(
+        &mut self,
+        line: Line<'_>,
+        room: &mut Vec<u8>,
+    ) -> Result<Option<Wrong>, NoMemory>
         requires { IsSound self.old }
         ensures sound { IsSound self.new }
         ensures taken { IfOk result (λ wrong. (S : Setting) (J : List Entry) → Stands S J self.old
             → Takes S J (line_of line.entry.text.now line.entry.ended) wrong self.new) }
         ensures kept { IfOk result (λ wrong. IfSome wrong (λ _. self.new ≡ self.old)) }
         ensures no_entry { (S : Setting) (J : List Entry) → Stands S J self.old
-            → entry_after S J (line_of line.entry.text.now line.entry.ended) ≡ None → result ≡ Ok (Some wrong.Entry) }
+            → IsWrongNext S J (line_of line.entry.text.now line.entry.ended) wrong.Entry → result ≡ Ok (Some wrong.Entry) }
     {
-        if let Some(entry) = self.answered(alloc, line) {
-            self.count(&entry);
+        if self.take_answered(line, room) {
             return Ok(None);
         }
-        self.take_read(alloc, line)
+        self.take_read(line, room)
     }
 
     // As `take`, where the whole line is read: also its outcome, which tells how the line is wrong.
-    fn take_read(&mut self, alloc: Global, line: Line<'_>) -> Result<Option<Wrong>, NoMemory>
+    fn take_read(&mut self, line: Line<'_>, room: &mut Vec<u8>) -> Result<Option<Wrong>, NoMemory>
         requires { IsSound self.old }
         ensures sound { IsSound self.new }
         ensures taken { IfOk result (λ wrong. (S : Setting) (J : List Entry) → Stands S J self.old
             → Takes S J (line_of line.entry.text.now line.entry.ended) wrong self.new) }
         ensures kept { IfOk result (λ wrong. IfSome wrong (λ _. self.new ≡ self.old)) }
         ensures no_entry { (S : Setting) (J : List Entry) → Stands S J self.old
-            → entry_after S J (line_of line.entry.text.now line.entry.ended) ≡ None → result ≡ Ok (Some wrong.Entry) }
+            → IsWrongNext S J (line_of line.entry.text.now line.entry.ended) wrong.Entry → result ≡ Ok (Some wrong.Entry) }
     {
         let Some(entry) = self.next_entry(line) else {
             return Ok(Some(Wrong::Entry));
         };
-        if !self.is_answered(alloc, line.text, &entry)? {
+        if !self.is_answered(line.text, &entry, room)? {
             return Ok(Some(Wrong::Outcome));
         }
         self.count(&entry);
         Ok(None)
     }
 
-    // The entry whose outcome is the answer and whose text the line is. The outcome is not read: the text with the
-    // answer is made, and the line compared with it. None says nothing: another line is read by `take_read`, and one
-    // for which there is no memory.
-    fn answered(&self, alloc: Global, line: Line<'_>) -> Option<Entry>
-        requires { IsSound self.now }
-        ensures entry { IfSome result (λ entry. (S : Setting) (J : List Entry) → Stands S J self.now
-            → entry_at S J (line_of line.entry.text.now line.entry.ended) ≡ Ok entry) }
-        ensures fits { IfSome result (FitsEntry (length self.now.cover.now.names) (length self.now.graph.now.names)) }
-        ensures comes { IfSome result (λ entry. MayCome self.now entry.session entry.seq) }
+    // Takes the entry whose outcome is the answer and whose text the line is. The outcome is not read: the text with the
+    // answer is made, and the line compared with it. False says nothing, and then nothing was taken: another line is left
+    // to `take_read`, and one for which there is no memory.
+    fn take_answered(&mut self, line: Line<'_>, room: &mut Vec<u8>) -> bool
+        requires { IsSound self.old }
+        ensures sound { IsSound self.new }
+        ensures taken { IsTrue result → (S : Setting) (J : List Entry) → Stands S J self.old
+            → Takes S J (line_of line.entry.text.now line.entry.ended) None self.new }
+        ensures kept { result ≡ false → self.new ≡ self.old }
     {
-        let text = line.whole()?;
-        let head = self.next_head(text)?;
+        let Some(text) = line.whole() else {
+            return false;
+        };
+        let Some(head) = self.next_head(text) else {
+            return false;
+        };
         let outcome = answer(&self.plain, self.cover, &self.tracked, &head.call);
         let entry = Entry {
             session: head.session,
@@ -139,18 +145,18 @@ impl<'g, 'n> Run<'g, 'n> {
             call: head.call,
             outcome,
         };
-        let Ok(true) = self.is_line(alloc, text, &entry) else {
-            return None;
+        let Ok(true) = self.is_line(text, &entry, room) else {
+            return false;
         };
-        Some(entry)
+        self.count(&entry);
+        true
     }
 
     // The head that a text begins with, where an entry with it may come next if its place is the next.
     fn next_head(&self, text: &[u8]) -> Option<Head>
         requires { IsSound self.now }
-        ensures comes { IfSome result (λ head. MayCome self.now head.session head.seq) }
+        ensures comes { IfSome result (λ head. HasPlace self.now head.session head.seq) }
         ensures call { IfSome result (λ head. IsInRange (length self.now.cover.now.names) (length self.now.graph.now.names) head.call) }
-        ensures names { IfSome result (λ _. AreNames self.now.cover.now.names × AreNames self.now.graph.now.names) }
     {
         if self.is_over() {
             return None;
@@ -173,8 +179,9 @@ impl<'g, 'n> Run<'g, 'n> {
     // The entry that a line tells, whatever its outcome. None exactly where it tells none that may come next.
     fn next_entry(&self, line: Line<'_>) -> Option<Entry>
         requires { IsSound self.now }
-        ensures entry { (S : Setting) (J : List Entry) → Stands S J self.now
-            → result ≡ entry_after S J (line_of line.entry.text.now line.entry.ended) }
+        ensures entry { (S : Setting) (J : List Entry) → Stands S J self.now → MatchOption result
+            (IsWrongNext S J (line_of line.entry.text.now line.entry.ended) wrong.Entry)
+            (IsNext S J (line_of line.entry.text.now line.entry.ended)) }
         ensures fits { IfSome result (FitsEntry (length self.now.cover.now.names) (length self.now.graph.now.names)) }
         ensures open { IfSome result (λ _. self.now.len < 200000) }
         ensures running { IfSome result (λ _. self.now.faulted ≡ false) }
@@ -192,11 +199,11 @@ impl<'g, 'n> Run<'g, 'n> {
     }
 
     // Whether the outcome of the entry that the text tells is the answer, or a fault where the answer is done.
-    fn is_answered(&self, alloc: Global, text: &[u8], entry: &Entry) -> Result<bool, NoMemory>
+    fn is_answered(&self, text: &[u8], entry: &Entry, room: &mut Vec<u8>) -> Result<bool, NoMemory>
         requires sound { IsSound self.now }
         requires fits { FitsEntry (length self.now.cover.now.names) (length self.now.graph.now.names) entry.now }
         ensures { IfOk result (λ is. (S : Setting) (J : List Entry) (ended : Bool) → Stands S J self.now
-            → is ≡ is_answered S J (line_of text.now ended) entry.now (answer_after S J entry.now.call)) }
+            → IsNext S J (line_of text.now ended) entry.now → Decides is (IsAnswered S J entry.now)) }
     {
         let outcome = answer(&self.plain, self.cover, &self.tracked, &entry.call);
         if is_done(&outcome) && is_faulted(&entry.outcome) {
@@ -208,18 +215,18 @@ impl<'g, 'n> Run<'g, 'n> {
             call: entry.call,
             outcome,
         };
-        self.is_line(alloc, text, &told)
+        self.is_line(text, &told, room)
     }
 
-    // Whether the text is that of the entry, at the next place.
-    fn is_line(&self, alloc: Global, text: &[u8], entry: &Entry) -> Result<bool, NoMemory>
+    // Whether the text is that of the entry, at the next place. The entry's is made in the room, which is kept for the next.
+    fn is_line(&self, text: &[u8], entry: &Entry, room: &mut Vec<u8>) -> Result<bool, NoMemory>
         requires { FitsEntry (length self.now.cover.now.names) (length self.now.graph.now.names) entry.now }
         ensures { IfOk result (λ is. is
             ≡ bytes_eq text.now (entry_text self.now.cover.now.names self.now.graph.now.names self.now.len entry.now)) }
     {
-        let mut line = Vec::with_capacity(alloc, text.len())?;
-        write_entry(self.len, entry, self.graph, self.cover, &mut line)?;
-        Ok(line.as_slice() == text)
+        room.clear();
+        write_entry(self.len, entry, self.graph, self.cover, room)?;
+        Ok(room.as_slice() == text)
     }
 
     // Counts the entry, and steps the marking where it was done.
@@ -230,7 +237,8 @@ impl<'g, 'n> Run<'g, 'n> {
         requires fits { FitsEntry (length self.old.cover.now.names) (length self.old.graph.now.names) entry.now }
         requires running { self.old.faulted ≡ false }
         ensures sound { IsSound self.new }
-        ensures stands { (S : Setting) (J : List Entry) → Stands S J self.old → Stands S (J ++ entry.now ∷ []) self.new }
+        ensures stands { (S : Setting) (J : List Entry) → Stands S J self.old → MayCome S J entry.now
+            → IsAnswered S J entry.now → Stands S (J ++ entry.now ∷ []) self.new }
     {
         step(&mut self.plain, self.cover, entry);
         self.faulted = is_faulted(&entry.outcome);

@@ -14,5 +14,5 @@ mod verdict;
 
 pub use check::check_report;
 pub use entries::is_done;
-pub use laws::{a_text_has_one_verdict, the_first_wrong_line_is_told, valid_is_report};
+pub use laws::a_text_has_one_verdict;
 pub use verdict::{Verdict, Wrong};

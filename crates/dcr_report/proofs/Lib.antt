@@ -1,4 +1,3 @@
 pub mod Passing
 pub mod LegalLemmas
 pub mod ReportLemmas
-pub mod PieceLemmas

@@ -1,4 +1,5 @@
 pub mod Report
 pub mod FitsClosed
-pub mod Passed
+pub mod ReportLines
+pub mod Writing
 pub mod Stop

@@ -1,5 +1,5 @@
 -- The report of a run, line by line.
-use Rattle.std.specs.Prelude.{ℕ, ◌+◌, List, [], ◌∷◌, ◌++◌, length, codes, decimal, flat_map, Option, Some, None}
+use Rattle.std.specs.Prelude.{ℕ, ◌+◌, List, [], ◌∷◌, ◌++◌, length, codes, decimal, flat_map, slice_range, Option, Some, None}
 use Rattle.dcr_graph.specs.Cause.{waits}
 use Rattle.dcr_graph.specs.declared.marking.Marking.{Marking}
 use Rattle.dcr_graph.specs.declared.marking.SiteMark.{SiteMark}
@@ -22,6 +22,10 @@ line text = text ++ 10 ∷ []
 -- the lines one after the other, each with its line end
 abbrev pub lines_text : List (List ℕ) → List ℕ
 lines_text lines = flat_map line lines
+
+-- those from a place on, up to another
+abbrev pub text_between : List (List ℕ) → ℕ → ℕ → List ℕ
+text_between lines from to = lines_text (slice_range lines from to)
 
 -- the first line tells the version of the graph
 abbrev pub version_text : Version → List ℕ
@@ -86,5 +90,5 @@ report_text N C M J =
 -- ---- for private clauses
 
 -- the report of what a closed run tells, where the atoms have these names
-abbrev pub told_text : Nest → Owners → List (List ℕ) → Closed → List ℕ
-told_text N C names closed = lines_text (report_lines N C names closed.opening closed.history.entries closed.marks closed.waits)
+abbrev pub told_lines : Nest → Owners → List (List ℕ) → Closed → List (List ℕ)
+told_lines N C names closed = report_lines N C names closed.opening closed.history.entries closed.marks closed.waits

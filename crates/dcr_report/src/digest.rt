@@ -5,7 +5,8 @@ ghost use Rattle.dcr_nest.specs.FlatRelation.{IsFlattening};
 ghost use Rattle.dcr_report.specs.Report.{digested_text};
 ghost use Rattle.sha2.specs.Sha256.{sha256};
 
-use crate::lines::put_case;
+use crate::head::{HEAD, HeadLines};
+use crate::writer::add_lines;
 use dcr_graph::{Graph, Marking};
 use dcr_nest::Nested;
 use dcr_proj::Cover;
@@ -28,8 +29,15 @@ pub fn case_digest(
     ensures { IfOk result (λ digest. digest ≡ sha256 (digested_text nested.now cover.now opening.now)) }
 {
     let _sites = cover.site_names();
+    let head = HeadLines {
+        alloc,
+        nested,
+        graph,
+        cover,
+        opening,
+    };
     let mut text = Vec::new(alloc);
-    put_case(alloc, nested, graph, cover, opening, &mut text)?;
+    add_lines(&head, 1, HEAD, &mut text)?;
     let mut hasher = Sha256::new();
     hasher.update(text.as_slice());
     Ok(hasher.finalize())

@@ -1,23 +1,21 @@
-ghost use Rattle.std.specs.Prelude.{◌≡◌, ◌≢◌, ℕ, ◌<◌, ◌≤◌, ⊤, length, take, Some, OnOk, IfErr, OnErr};
+ghost use Rattle.std.specs.Prelude.{◌≡◌, length, Some, OnOk, IfErr, OnErr};
 ghost use Rattle.std.specs.List.{All};
-ghost use Rattle.std.specs.Thread.{IsSync};
 ghost use Rattle.dcr_base.specs.Side.{Adds, Stopped};
 ghost use Rattle.dcr_graph.specs.Cause.{waits};
 ghost use Rattle.dcr_graph.specs.GraphValue.{rules_of};
 ghost use Rattle.dcr_graph.specs.Projection.{HasRoom};
 ghost use Rattle.dcr_nest.specs.FlatRelation.{IsFlattening};
 ghost use Rattle.dcr_journal.specs.Run.{IsLegal, after, marks_at};
-ghost use Rattle.dcr_line.specs.Fits.{FitsEntry};
-ghost use Rattle.dcr_report.specs.Report.{lines_text, entry_lines, report_text, told_text};
-ghost use Rattle.dcr_report.specs.FitsClosed.{FitsClosed};
+ghost use Rattle.dcr_report.specs.Report.{report_text};
 ghost use Rattle.dcr_report.specs.Stop.{message_of};
-ghost use Rattle.dcr_report.specs.Passed.{CountsStop, Passed, StopsWithin};
+ghost use Rattle.dcr_report.specs.Writing.{CountsStop};
 
-use crate::lines::{pass_entries, pass_head, pass_sites, put_end};
-use crate::pieces::pass_by_threads;
-use dcr_base::{Sink, write_all};
+use crate::lines::ReportLines;
+use crate::pieces::{round_of, write_by_threads};
+use crate::writer::write_lines;
+use dcr_base::Sink;
 use dcr_graph::Graph;
-use dcr_journal::{Closed, Journal};
+use dcr_journal::Closed;
 use dcr_nest::Nested;
 use dcr_proj::Cover;
 use dcr_set::NoMemory;
@@ -96,11 +94,19 @@ pub fn write_report<O: Sink>(
     ensures not_all { OnErr result (Stopped (report_text nested.now cover.now closed.now.opening closed.now.history.entries) (O.takes sink.old) (O.takes sink.new)) }
     ensures counts { IfErr result (λ stop. CountsStop stop (O.takes sink.old).faults (O.takes sink.new).faults) }
 {
-    write_told(alloc, &InTurn, nested, graph, cover, closed, sink)
+    let lines = ReportLines {
+        alloc,
+        nested,
+        graph,
+        cover,
+        sites: cover.site_names(),
+        closed,
+    };
+    write_lines(alloc, &lines, sink)
 }
 
-/// Writes the report of a closed run as `write_report` does, by the same clauses. Where it is long, the lines of its entries
-/// are made by as many threads as there are processors, 16 at most, and 16 MiB of them are held at most.
+/// Writes the report of a closed run as `write_report` does, by the same clauses. Where it is long, its lines are made by as
+/// many threads as there are processors, 16 at most, and beside its head 16 MiB of them are held at most.
 pub fn write_report_by_threads<O: Sink, R: Threads + Sync>(
     rt: &R,
     alloc: Global,
@@ -123,116 +129,13 @@ pub fn write_report_by_threads<O: Sink, R: Threads + Sync>(
     ensures not_all { OnErr result (Stopped (report_text nested.now cover.now closed.now.opening closed.now.history.entries) (O.takes sink.old) (O.takes sink.new)) }
     ensures counts { IfErr result (λ stop. CountsStop stop (O.takes sink.old).faults (O.takes sink.new).faults) }
 {
-    let threads = ByThreads { rt, alloc };
-    write_told(alloc, &threads, nested, graph, cover, closed, sink)
-}
-
-/// How the lines of the entries are passed.
-trait EntryWay {
-    // Holds of a way that can be gone.
-    ghost ready: { Self → Type 0 } = { λ _. ⊤ };
-
-    fn pass_entries<O: Sink>(
-        &self,
-        history: &Journal,
-        graph: &Graph,
-        cover: &Cover,
-        held: &mut Vec<u8>,
-        sink: &mut O,
-    ) -> Result<(), ReportStop>
-        requires ready { ready self.now }
-        requires fits { All (FitsEntry (length cover.now.names) (length graph.now.names)) history.now.entries }
-        ensures passed { OnOk result (Passed (O.takes sink.old) (O.takes sink.new) held.old.items held.new.items
-            (lines_text (entry_lines cover.now.names graph.now.names 0 history.now.entries))) }
-        ensures stopped { IfErr result (λ stop. StopsWithin stop (O.takes sink.old) (O.takes sink.new) held.old.items
-            (lines_text (entry_lines cover.now.names graph.now.names 0 history.now.entries))) };
-}
-
-// One line after the other.
-#[derive(Drop)]
-struct InTurn;
-
-impl EntryWay for InTurn {
-    fn pass_entries<O: Sink>(
-        &self,
-        history: &Journal,
-        graph: &Graph,
-        cover: &Cover,
-        held: &mut Vec<u8>,
-        sink: &mut O,
-    ) -> Result<(), ReportStop> {
-        pass_entries(history, graph, cover, held, sink)
-    }
-}
-
-// By threads where that pays.
-#[derive(Drop)]
-struct ByThreads<'a, R> {
-    rt: &'a R,
-    alloc: Global,
-}
-
-impl<R: Threads + Sync> EntryWay for ByThreads<'_, R> {
-    ghost ready = { λ _. IsSync R.row };
-
-    fn pass_entries<O: Sink>(
-        &self,
-        history: &Journal,
-        graph: &Graph,
-        cover: &Cover,
-        held: &mut Vec<u8>,
-        sink: &mut O,
-    ) -> Result<(), ReportStop> {
-        pass_by_threads(self.rt, self.alloc, history, graph, cover, held, sink)
-    }
-}
-
-// The report of what the run tells: its lines want no more than numbers of sites and atoms that there are.
-fn write_told<W: EntryWay, O: Sink>(
-    alloc: Global,
-    way: &W,
-    nested: &Nested,
-    graph: &Graph,
-    cover: &Cover,
-    closed: &Closed,
-    sink: &mut O,
-) -> Result<(), ReportStop>
-    requires ready { W.ready way.now }
-    requires rooms { All (λ set. length set ≡ length graph.now.names) cover.now.owned }
-    requires fits { FitsClosed (length cover.now.owned) (length graph.now.names) closed.now }
-    ensures all { OnOk result (Adds (told_text nested.now cover.now graph.now.names closed.now) (O.takes sink.old) (O.takes sink.new)) }
-    ensures not_all { OnErr result (Stopped (told_text nested.now cover.now graph.now.names closed.now) (O.takes sink.old) (O.takes sink.new)) }
-    ensures counts { IfErr result (λ stop. CountsStop stop (O.takes sink.old).faults (O.takes sink.new).faults) }
-{
-    let mut held = Vec::new(alloc);
-    pass_report(alloc, way, nested, graph, cover, closed, &mut held, sink)?;
-    write_all(sink, &held)?;
-    Ok(())
-}
-
-// All of the report; the end of it is still held.
-fn pass_report<W: EntryWay, O: Sink>(
-    alloc: Global,
-    way: &W,
-    nested: &Nested,
-    graph: &Graph,
-    cover: &Cover,
-    closed: &Closed,
-    held: &mut Vec<u8>,
-    sink: &mut O,
-) -> Result<(), ReportStop>
-    requires ready { W.ready way.now }
-    requires rooms { All (λ set. length set ≡ length graph.now.names) cover.now.owned }
-    requires fits { FitsClosed (length cover.now.owned) (length graph.now.names) closed.now }
-    ensures passed { OnOk result (Passed (O.takes sink.old) (O.takes sink.new) held.old.items held.new.items
-        (told_text nested.now cover.now graph.now.names closed.now)) }
-    ensures stopped { IfErr result (λ stop. StopsWithin stop (O.takes sink.old) (O.takes sink.new) held.old.items
-        (told_text nested.now cover.now graph.now.names closed.now)) }
-{
-    let sites = cover.site_names();
-    pass_head(alloc, nested, graph, cover, closed, held, sink)?;
-    way.pass_entries(&closed.history, graph, cover, held, sink)?;
-    pass_sites(&closed.marks, graph, sites, held, sink)?;
-    put_end(closed.waits, closed.history.len(), graph, held)?;
-    Ok(())
+    let lines = ReportLines {
+        alloc,
+        nested,
+        graph,
+        cover,
+        sites: cover.site_names(),
+        closed,
+    };
+    write_by_threads(rt, alloc, &lines, round_of(graph), sink)
 }

@@ -40,9 +40,9 @@ fn put_site(site: &Name, mark: &SiteMark, graph: &Graph, out: &mut Vec<u8>) -> R
         ≡ out.old.items ++ site_text graph.now.names site.now mark.now) }
     ensures kept { StartsWith out.old.items out.new.items }
 {
-    put(b"site ", out)?;
-    put(site.text().as_bytes(), out)?;
-    put(b" ", out)?;
+    out.extend_from_slice(b"site ")?;
+    out.extend_from_slice(site.text().as_bytes())?;
+    out.push(b' ')?;
     write_mark(mark, graph, out)
 }
 
@@ -72,9 +72,10 @@ fn put_verdict(waits: Option<EventId>, graph: &Graph, out: &mut Vec<u8>) -> Resu
     ensures kept { StartsWith out.old.items out.new.items }
 {
     let Some(e) = waits else {
-        return put(b"verdict accepting", out);
+        out.extend_from_slice(b"verdict accepting")?;
+        return Ok(());
     };
-    put(b"verdict waits ", out)?;
+    out.extend_from_slice(b"verdict waits ")?;
     write_event(e, graph, out)
 }
 
@@ -97,15 +98,6 @@ fn put_end(count: u32, out: &mut Vec<u8>) -> Result<(), NoMemory>
     ensures added { OnOk result (out.new.items ≡ out.old.items ++ (codes "end " ++ decimal count)) }
     ensures kept { StartsWith out.old.items out.new.items }
 {
-    put(b"end ", out)?;
+    out.extend_from_slice(b"end ")?;
     decimal(u64::from(count), out)
-}
-
-// Adds these bytes.
-fn put(text: &[u8], out: &mut Vec<u8>) -> Result<(), NoMemory>
-    ensures added { OnOk result (out.new.items ≡ out.old.items ++ text.now) }
-    ensures kept { StartsWith out.old.items out.new.items }
-{
-    out.extend_from_slice(text)?;
-    Ok(())
 }

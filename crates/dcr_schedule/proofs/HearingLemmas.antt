@@ -5,7 +5,7 @@ use Rattle.std.proofs.lemmas.Option.{slice_get-map, slice_get_within}
 use Rattle.dcr_set.specs.EventSet.{Set}
 use Rattle.dcr_graph.specs.Rules.{Rules}
 use Rattle.dcr_graph.specs.declared.marking.Marking.{Marking}
-use Rattle.dcr_node.specs.JournalState.{JournalState, stream_of}
+use Rattle.dcr_node.specs.JournalState.{JournalState, stream_of, execution}
 use Rattle.dcr_node.specs.Laws.{AnItemIsHeard, AskingTells, counts, with_told}
 use Rattle.dcr_node.specs.Machine.{happens}
 use Rattle.dcr_node.specs.Right.{IsRight}
@@ -157,19 +157,18 @@ pub settles : AskingTells → {R E : Type 0} (result : Result R E) (w now again 
     → ((G : Rules) (C : List Set) (M : Marking) → IsRight G C M again → answered ≡ happens G C again (Deliver question))
     → ((G : Rules) (C : List Set) (M : Marking) → IsRight G C M again → IsRight G C M answered)
     → OnOk result ((G : Rules) (C : List Set) (M : Marking) → IsRight G C M answered → after ≡ happens G C answered (Deliver vote))
-    → OnOk result ((G : Rules) (C : List Set) (M : Marking) (p : Proposal) → IsRight G C M w → w.journal.out ≡ Some p → p.site ≡ site
-    → after.journal ≡ with_told G C M w.journal p)
+    → OnOk result ((G : Rules) (C : List Set) (M : Marking) (session event : ℕ) → IsRight G C M w → w.journal.out ≡ Some (execution session site event)
+    → after.journal ≡ with_told G C M w.journal (execution session site event))
 settles law (Err e) w now again answered after site question vote heard right q asked right_again v delivered right_answered voted = tt
-settles law (Ok r) w now again answered after site question vote heard right q asked right_again v delivered right_answered voted = λ G C M p it out at.
+settles law (Ok r) w now again answered after site question vote heard right q asked right_again v delivered right_answered voted = λ G C M session event it out.
     let hears = heard G C M it in
     let node = at_count now site (length (stream_of w.journal site)) hears.heard in
-    let here : slice_get now.sites p.site ≡ Some node.0 = subst (λ i. slice_get now.sites i ≡ Some node.0) (sym at) node.1 in
-    let all : node.0.count ≡ length (stream_of now.journal p.site) =
-    node.2 ∙ (ap (λ (j : JournalState). length (stream_of j site)) (sym hears.journal) ∙ ap (λ i. length (stream_of now.journal i)) (sym at)) in
+    let all : node.0.count ≡ length (stream_of now.journal site) = node.2 ∙ ap (λ (j : JournalState). length (stream_of j site)) (sym hears.journal) in
+    let p : Proposal = execution session site event in
     let is_now = right G C M it in
     let is_again = right_again G C M is_now in
     let is_out : now.journal.out ≡ Some p = ap (λ (j : JournalState). j.out) hears.journal ∙ out in
-    let it_tells = law G C M now p node.0 is_now is_out here all in
+    let it_tells = law G C M now session site event node.0 is_now is_out node.1 all in
     let one : again ≡ happens G C now AskAgain = asked G C M is_now in
     let two : answered ≡ happens G C (happens G C now AskAgain) (Deliver (length now.sent)) =
     delivered G C M is_again ∙ (ap (λ (x : WorldState). happens G C x (Deliver question)) one ∙ ap (λ n. happens G C (happens G C now AskAgain) (Deliver n)) q) in

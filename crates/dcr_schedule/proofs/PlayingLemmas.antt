@@ -10,10 +10,9 @@ use Rattle.dcr_graph.specs.Rules.{Rules}
 use Rattle.dcr_graph.specs.declared.marking.Marking.{Marking}
 use Rattle.dcr_journal.specs.Run.{numbered, told, told_next}
 use Rattle.dcr_journal.specs.declared.call.Call.{Call}
-use Rattle.dcr_journal.specs.declared.call.Call.TheVariants.{Exec}
 use Rattle.dcr_journal.specs.declared.call.Entry.{Entry}
 use Rattle.dcr_wire.specs.declared.message.Message.{Message}
-use Rattle.dcr_node.specs.JournalState.{JournalState, asked_by, is_free, proposed, question, question_of}
+use Rattle.dcr_node.specs.JournalState.{JournalState, asked_by, execution, is_free, with_out, proposed, question, question_of}
 use Rattle.dcr_node.specs.Laws.{NothingElseIsTold, ProposesNothing, StayedOrTold, with_told}
 use Rattle.dcr_node.specs.Machine.{happens, sending, with_journal}
 use Rattle.dcr_node.specs.Right.{IsRight}
@@ -154,16 +153,19 @@ sending_journal w None = refl
 sending_journal w (Some message) = refl
 
 -- a proposal changes the journal alone
-pub proposes : (G : Rules) (C : List Set) (w after : WorldState) (p : Proposal) → after ≡ happens G C w (Propose p.session p.site p.event) → after.journal ≡ proposed w.journal p
-proposes G C w after p is = ap (λ (x : WorldState). x.journal) is ∙ sending_journal (with_journal w (proposed w.journal p)) (question_of w.journal p)
+pub proposes : (G : Rules) (C : List Set) (w after : WorldState) (session site event : ℕ) → after ≡ happens G C w (Propose session site event)
+    → after.journal ≡ proposed w.journal (execution session site event)
+proposes G C w after session site event is =
+    let p = execution session site event in
+    ap (λ (x : WorldState). x.journal) is ∙ sending_journal (with_journal w (proposed w.journal p)) (question_of w.journal p)
 
 -- what was proposed is out still, or was told
 pub proposed_then : (G : Rules) (C : List Set) (M : Marking) (p : Proposal) (before after later : JournalState) → is_free before ≡ true → after ≡ proposed before p
     → StayedOrTold G C M after later → IsOut p before later ⊎ HasTold G C M p before later
 proposed_then G C M p before after later free is stayed =
-    let there : after ≡ record before { out = Some p } = is ∙ ap (λ (b : Bool). cond b (record before { out = Some p }) before) free in go there stayed
+    let there : after ≡ with_out before p = is ∙ ap (λ (b : Bool). cond b (with_out before p) before) free in go there stayed
   where
-    go : after ≡ record before { out = Some p } → StayedOrTold G C M after later → IsOut p before later ⊎ HasTold G C M p before later
+    go : after ≡ with_out before p → StayedOrTold G C M after later → IsOut p before later ⊎ HasTold G C M p before later
     go there (inl same) = inl (record {
       out = ap (λ (j : JournalState). j.out) (same ∙ there);
       entries = ap (λ (j : JournalState). j.history.entries) (same ∙ there);
@@ -186,8 +188,8 @@ told_here G C M p before now after out is = record {
 }
 
 -- what is out is asked for
-pub asked_for : (j : JournalState) (p : Proposal) → j.out ≡ Some p → question j ≡ None → ⊥
-asked_for j p out none = let e = ap (λ (o : Option Proposal). question (record j { out = o })) out in absurd cc
+pub asked_for : (j : JournalState) (session site event : ℕ) → j.out ≡ Some (execution session site event) → question j ≡ None → ⊥
+asked_for j session site event out none = let e = ap (λ (o : Option Proposal). question (record j { out = o })) out in absurd cc
 
 pub not_asked_for : (j : JournalState) → j.out ≡ None → question j ≡ None
 not_asked_for j out = ap (λ (o : Option Proposal). question (record j { out = o })) out
@@ -266,17 +268,18 @@ pub tells_first : (all : List (ℕ × Call)) (w : WorldState) → Telling all al
 tells_first all w = record { kept = kept_self w; right = λ G C M it. it; goes = λ G C M it. goes_first G C M all w.journal }
 
 -- an execution at a place was told
-pub tells_exec : (all : List (ℕ × Call)) (calls : List Call) (place : ℕ) (p : Proposal) (before now after : WorldState) → slice_get calls place ≡ Some (Exec p.site p.event)
+pub tells_exec : (all : List (ℕ × Call)) (calls : List Call) (place : ℕ) (p : Proposal) (before now after : WorldState) → slice_get calls place ≡ Some p.call → is_exec p.call ≡ true
     → Telling all (executions_of p.session (drop place calls)) before now → IsKept now after
     → ((G : Rules) (C : List Set) (M : Marking) → IsRight G C M now → IsRight G C M after)
     → ((G : Rules) (C : List Set) (M : Marking) → IsRight G C M now → is_free now.journal ≡ true → HasTold G C M p now.journal after.journal)
     → Telling all (executions_of p.session (drop (place + 1) calls)) before after
-tells_exec all calls place p before now after here so kept right told = record {
+tells_exec all calls place p before now after here exec so kept right told = record {
   kept = kept_then before now after so.kept kept;
   right = λ G C M it. right G C M (so.right G C M it);
   goes = λ G C M it.
       goes_next G C M all p (executions_of p.session (drop (place + 1) calls)) before.journal now.journal after.journal so.kept.capacity (told G C M (so.right G C M it))
-      (subst (λ left. MayGoOn G C M all left before.journal now.journal) (ap (map (λ call. (p.session, call))) (exec_there calls place (Exec p.site p.event) here)) (so.goes G C M it));
+      (subst (λ left. MayGoOn G C M all left before.journal now.journal) (ap (map (λ call. (p.session, call))) (exec_there calls place p.call here
+      ∙ ap (λ (b : Bool). cond b (p.call ∷ filter is_exec (drop (place + 1) calls)) (filter is_exec (drop (place + 1) calls))) exec)) (so.goes G C M it));
 }
 
 -- a call that is no execution is passed over

@@ -1,17 +1,16 @@
 // The executions of sessions, proposed one after the other.
-ghost use Rattle.std.specs.Prelude.{◌≡◌, ◌<◌, ◌≤◌, [], List, length, Some, None, true, OnOk};
+ghost use Rattle.std.specs.Prelude.{◌≡◌, ℕ, ◌<◌, ◌≤◌, [], List, length, Some, None, true, OnOk};
 ghost use Rattle.std.specs.List.{All};
 ghost use Rattle.dcr_set.specs.EventSet.{Set};
 ghost use Rattle.dcr_graph.specs.Rules.{Rules};
 ghost use Rattle.dcr_graph.specs.declared.marking.Marking.{Marking as Marks};
 ghost use Rattle.dcr_proj.specs.CoverValue.{atoms_of};
 ghost use Rattle.dcr_journal.specs.Run.{IsInRange, numbered, told};
-ghost use Rattle.dcr_node.specs.JournalState.{is_free};
+ghost use Rattle.dcr_node.specs.JournalState.{execution, is_free};
 ghost use Rattle.dcr_node.specs.Laws.{StayedOrTold, with_told};
 ghost use Rattle.dcr_node.specs.Right.{IsRight};
 ghost use Rattle.dcr_node.specs.WorldState.{HaveHeardAll, IsKept, IsEvent};
 ghost use Rattle.dcr_node.specs.declared.event.WorldEvent.TheVariants.{Propose};
-ghost use Rattle.dcr_node.specs.declared.journal_node.Proposal.{Proposal};
 ghost use Rattle.dcr_schedule.specs.Executions.{exec_calls, executions_of};
 ghost use Rattle.dcr_schedule.specs.Playing.{AreTold, HasTold};
 
@@ -81,7 +80,7 @@ fn execute(
     ensures kept { IsKept world.old world.new }
     ensures right { (G : Rules) (C : List Set) (M : Marks) → IsRight G C M world.old → IsRight G C M world.new }
     ensures told { OnOk result ((G : Rules) (C : List Set) (M : Marks) → IsRight G C M world.old → is_free world.old.journal ≡ true
-        → HasTold G C M (record { session = session; site = site; event = event }) world.old.journal world.new.journal) }
+        → HasTold G C M (execution session site event) world.old.journal world.new.journal) }
 {
     world.event(WorldEvent::Propose {
         session,
@@ -142,8 +141,8 @@ fn settle(world: &mut World, site: SiteId) -> Result<(), NoMemory>
     requires { site < length world.old.sites }
     ensures kept { IsKept world.old world.new }
     ensures right { (G : Rules) (C : List Set) (M : Marks) → IsRight G C M world.old → IsRight G C M world.new }
-    ensures told { OnOk result ((G : Rules) (C : List Set) (M : Marks) (p : Proposal) → IsRight G C M world.old → world.old.journal.out ≡ Some p
-        → p.site ≡ site → world.new.journal ≡ with_told G C M world.old.journal p) }
+    ensures told { OnOk result ((G : Rules) (C : List Set) (M : Marks) (session event : ℕ) → IsRight G C M world.old
+        → world.old.journal.out ≡ Some (execution session site event) → world.new.journal ≡ with_told G C M world.old.journal (execution session site event)) }
 {
     // Where the asked site has heard of all, this tells what is out.
     proposals_are_told();

@@ -1,1 +1,3 @@
 pub mod WireLemmas
+pub mod SetFormLemmas
+pub mod AnswerLemmas

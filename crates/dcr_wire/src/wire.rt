@@ -2,6 +2,7 @@ ghost use Rattle.std.specs.Prelude.{◌≡◌, MatchOption};
 ghost use Rattle.dcr_site.specs.declared.site.Decision.{Decision};
 ghost use Rattle.dcr_wire.specs.declared.message.Message.{Message};
 ghost use Rattle.dcr_wire.specs.Form.{fields_of, decision_number, decision_event, Spell, IsReading};
+ghost use Rattle.dcr_wire.specs.Laws.{length_told};
 
 use crate::Message;
 use crate::fields::{Fields, read_fields, write_fields};
@@ -37,6 +38,21 @@ pub fn read_message(bytes: &[u8]) -> Option<Message>
 {
     let fields = read_fields(bytes)?;
     read_kind(&fields)
+}
+
+/// How many bytes there are in all where the first, the kind, is this: 14 of a message, 12 of a question, 400 of an answer.
+/// None exactly where nothing begins with it.
+pub fn length_of_kind(kind: u8) -> Option<usize>
+    ensures { result ≡ length_told kind }
+{
+    match kind {
+        1 => Some(14),
+        2 => Some(14),
+        3 => Some(14),
+        4 => Some(12),
+        5 => Some(400),
+        _ => None,
+    }
 }
 
 // The bytes of a vote.

@@ -24,14 +24,14 @@ pub reach-requires-clause-site : goal.reach-requires-clause-site
 reach-requires-clause-site c =
     let b = (goal.at.reach-requires-clause-site c).After-message-message in
     let is = c.requires in
-    asked_site is.rules is.owned is.opening (world_with is.opening c.args.journal.now c.args.sites.now c.args.sent.now) is.right c.in-Ask.number c.in-Ask.site c.in-Ask.event c.in-Ask.count
+    asked_site is.rules is.owned is.opening (world_with is.opening c.args.journal.now c.args.sites.now c.args.sent.now is.questions is.answers) is.right c.in-Ask.number c.in-Ask.site c.in-Ask.event c.in-Ask.count
     (subst (IsTrueAt is.rules is.owned is.opening c.args.journal.now) c.in-Ask.is (true_message b))
 
 pub reach-requires-clause-message : goal.reach-requires-clause-message
 reach-requires-clause-message c = λ node found.
     let b = (goal.at.reach-requires-clause-message c).After-message-message in
     let is = c.requires in
-    site_may_take is.rules is.owned is.opening (world_with is.opening c.args.journal.now c.args.sites.now c.args.sent.now) is.right c.message-message.result (true_message b)
+    site_may_take is.rules is.owned is.opening (world_with is.opening c.args.journal.now c.args.sites.now c.args.sent.now is.questions is.answers) is.right c.message-message.result (true_message b)
     (let entries = ap (λ (h : History). length h.entries) c.journal-entries.ensures.journal in let within = c.journal-entries.ensures.within in let most = c.journal-entries.ensures.most in omega arith)
     c.in-Ask.site node found
 
@@ -39,27 +39,27 @@ pub step-requires : goal.step-requires
 step-requires c =
     let b = (goal.at.step-requires c).After-message-message in
     let is = c.requires in
-    journal_may_take is.rules is.owned is.opening (world_with is.opening c.args.journal.now c.args.sites.now c.args.sent.now) is.right c.message-message.result (true_message b)
+    journal_may_take is.rules is.owned is.opening (world_with is.opening c.args.journal.now c.args.sites.now c.args.sent.now is.questions is.answers) is.right c.message-message.result (true_message b)
 
 pub reach-requires-in-Apply-clause-site : goal.reach-requires-in-Apply-clause-site
 reach-requires-in-Apply-clause-site c =
     let b = (goal.at.reach-requires-in-Apply-clause-site c).After-message-message in
     let is = c.requires in
-    item_site is.rules is.owned is.opening (world_with is.opening c.args.journal.now c.args.sites.now c.args.sent.now) is.right c.in-Apply.site c.in-Apply.index c.in-Apply.event
+    item_site is.rules is.owned is.opening (world_with is.opening c.args.journal.now c.args.sites.now c.args.sent.now is.questions is.answers) is.right c.in-Apply.site c.in-Apply.index c.in-Apply.event
     (subst (IsTrueAt is.rules is.owned is.opening c.args.journal.now) c.in-Apply.is (true_message b))
 
 pub reach-requires-in-Apply-clause-message : goal.reach-requires-in-Apply-clause-message
 reach-requires-in-Apply-clause-message c = λ node found.
     let b = (goal.at.reach-requires-in-Apply-clause-message c).After-message-message in
     let is = c.requires in
-    site_may_take is.rules is.owned is.opening (world_with is.opening c.args.journal.now c.args.sites.now c.args.sent.now) is.right c.message-message.result (true_message b)
+    site_may_take is.rules is.owned is.opening (world_with is.opening c.args.journal.now c.args.sites.now c.args.sent.now is.questions is.answers) is.right c.message-message.result (true_message b)
     (let entries = ap (λ (h : History). length h.entries) c.journal-entries.ensures.journal in let within = c.journal-entries.ensures.within in let most = c.journal-entries.ensures.most in omega arith)
     c.in-Apply.site node found
 
 pub returns-in-Ask : goal.returns-in-Ask
-returns-in-Ask c = λ G C M right.
+returns-in-Ask c = λ G C M questions answers right.
     let b = (goal.at.returns-in-Ask c).After-message-message in
-    let w = world_with M c.args.journal.now c.args.sites.now c.args.sent.now in
+    let w = world_with M c.args.journal.now c.args.sites.now c.args.sent.now questions answers in
     let told = subst (IsTrueAt G C M c.args.journal.now) c.in-Ask.is (right.sent c.args.number c.message-message.result (sent b)) in
     let m = Ask c.in-Ask.number c.in-Ask.site c.in-Ask.event c.in-Ask.count in
     ap (delivered_if G C w) (sent b ∙ ap Some c.in-Ask.is)
@@ -67,16 +67,16 @@ returns-in-Ask c = λ G C M right.
     (subst (λ x. Reached c.args.sites.now c.in-Ask.site x c.reach.new.sites c.reach.result) c.in-Ask.is c.reach.ensures)
 
 pub returns-in-Vote : goal.returns-in-Vote
-returns-in-Vote c = λ G C M right.
+returns-in-Vote c = λ G C M questions answers right.
     let b = (goal.at.returns-in-Vote c).After-message-message in
-    let w = world_with M c.args.journal.now c.args.sites.now c.args.sent.now in
+    let w = world_with M c.args.journal.now c.args.sites.now c.args.sent.now questions answers in
     ap (delivered_if G C w) (sent b ∙ ap Some c.in-Vote.is)
     ∙ ap (with_journal w) (sym (c.step.ensures ∙ ap (journal_step c.args.journal.now) c.in-Vote.is))
 
 pub returns-in-Apply : goal.returns-in-Apply
-returns-in-Apply c = λ G C M right.
+returns-in-Apply c = λ G C M questions answers right.
     let b = (goal.at.returns-in-Apply c).After-message-message in
-    let w = world_with M c.args.journal.now c.args.sites.now c.args.sent.now in
+    let w = world_with M c.args.journal.now c.args.sites.now c.args.sent.now questions answers in
     let told = subst (IsTrueAt G C M c.args.journal.now) c.in-Apply.is (right.sent c.args.number c.message-message.result (sent b)) in
     let m = Apply c.in-Apply.site c.in-Apply.index c.in-Apply.event in
     ap (delivered_if G C w) (sent b ∙ ap Some c.in-Apply.is)

@@ -1,8 +1,8 @@
--- What is left of the lines has the verdict over what is left of the wanted lines that all had.
-use Rattle.std.proofs.Common.{◌≡◌, ◌+◌}
-use Rattle.dcr_replay.specs.EndLines.{ends_by}
-use Rattle.dcr_replay.proofs.SiteLineLemmas.{run_wanted}
+-- The lines were those of the sites before this one, and then those that are left.
+use Rattle.std.proofs.Common.{◌≡◌, ◌++◌, take}
+use Rattle.dcr_replay.specs.ReportLines.{ended}
+use Rattle.dcr_replay.specs.Stands.{ends_of}
 use Rattle.dcr_replay.proofs.ends.check_ends.Given as goal
 
 abbrev pub invariant-loop-i : goal.invariant-loop-i
-invariant-loop-i l = ends_by l.run.len (5 + l.run.len) (run_wanted l.run 0) l.fn.lines ≡ ends_by l.run.len (l.first + l.i) (run_wanted l.run l.i) l.lines
+invariant-loop-i l = l.fn.lines ≡ ended (take l.i (ends_of l.run)) ++ l.lines

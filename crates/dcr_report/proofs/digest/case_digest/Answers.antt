@@ -1,6 +1,7 @@
 use Rattle.std.proofs.Common.{length}
-use Rattle.dcr_report.proofs.ReportLemmas.{cover_room}
+use Rattle.dcr_report.proofs.ReportLemmas.{cover_fits}
 use Rattle.dcr_report.proofs.digest.case_digest.Goals as goal
 
-pub put_case-requires-clause-rooms : goal.put_case-requires-clause-rooms
-put_case-requires-clause-rooms c = cover_room c.args.cover.now (length c.args.graph.now.names) c.site_names-sites.ensures.cover c.requires.rooms
+pub add_lines-requires-clause-fits : goal.add_lines-requires-clause-fits
+add_lines-requires-clause-fits c =
+    cover_fits c.args.cover.now (length c.args.graph.now.names) c.args.opening.now c.site_names-sites.ensures.cover c.requires.rooms c.requires.opening

@@ -1,7 +1,7 @@
 use Rattle.std.proofs.Common.{◌≡◌, ℕ, ◌+◌, ◌≤◌, [], ◌∷◌, ◌++◌, List, length, set, None, sym, ap, subst, ◌∙◌, arith, length-set}
 use Rattle.std.specs.Vec.{with_items}
 use Rattle.std.proofs.lemmas.Grind.{get_or_default_zero}
-use Rattle.std.proofs.lemmas.List.{with_items_is, length-append}
+use Rattle.std.proofs.lemmas.List.{with_items_is, length-append, length-replicate}
 use Rattle.std.proofs.lemmas.List.Sums.{count_by-le-length}
 use Rattle.std.proofs.lemmas.Option.{none-some}
 use Rattle.dcr_journal.specs.JournalValue.{History}
@@ -9,7 +9,9 @@ use Rattle.dcr_journal.specs.Run.{made_by}
 use Rattle.dcr_journal.specs.declared.call.Call.TheVariants.{Exec}
 use Rattle.dcr_journal.specs.declared.call.Outcome.{Outcome}
 use Rattle.dcr_journal.specs.declared.call.Entry.{Entry}
-use Rattle.dcr_node.specs.JournalState.{JournalState, entry_of, with_entry}
+use Rattle.dcr_journal.specs.Answer.{outcome_decided}
+use Rattle.dcr_node.specs.Gathering.{nothing_told, nothing_gathered}
+use Rattle.dcr_node.specs.JournalState.{JournalState, execution, entry_of, with_entry}
 use Rattle.dcr_node.specs.JournalNodeModel.{journal_state_of, IsOut}
 use Rattle.dcr_node.specs.Streams.{HaveRoom, AreTold}
 use Rattle.dcr_node.proofs.JournalLemmas.{AreStreams, streams_more, streams_have_room, AreMade, made_more}
@@ -17,8 +19,8 @@ use Rattle.dcr_node.proofs.journal_node.JournalNode.enter.Goals as goal
 use Rattle.dcr_node.proofs.journal_node.JournalNode.enter.Goals.{After-index_mut-made}
 
 -- the proposal that is out
-out : (c : After-index_mut-made) → IsOut (journal_state_of c.self.inside) c.args.p.now
-out c = c.self.invariant.out c.args.p.now (ap (λ (j : JournalState). j.out) c.self.view_is ∙ c.requires)
+out : (c : After-index_mut-made) → IsOut (journal_state_of c.self.inside) (execution c.args.p.now.session c.args.p.now.site c.args.p.now.event)
+out c = c.self.invariant.out (execution c.args.p.now.session c.args.p.now.site c.args.p.now.event) (ap (λ (j : JournalState). j.out) c.self.view_is ∙ c.requires)
 
 -- how many entries its session has
 made : (c : After-index_mut-made) → c.index_mut-made.result.now ≡ made_by c.args.p.now.session c.self.inside.journal.entries
@@ -44,7 +46,7 @@ invariant_of-self c =
     let b = (goal.at.invariant_of-self c).After-index_mut-made in
     let j = journal_state_of c.self.inside in
     let p = c.args.p.now in
-    let entry = entry_of j p c.args.decision.now in
+    let entry = entry_of j (execution p.session p.site p.event) (outcome_decided c.args.decision.now) in
     let n = c.index_mut-made.result.now in
     let session = p.session in
     let told : (seq : ℕ) (o : Outcome) → List Entry =
@@ -54,13 +56,14 @@ invariant_of-self c =
     let capacity = c.push_call.ensures.capacity in
     let streams : (with_items c.self.inside.streams c.tell.new.streams).items ≡ c.tell.new.streams =
     with_items_is c.self.inside.streams c.tell.new.streams (c.tell.auto.streams ∙ c.deref_mut.ensures.len) in
-    let j' : JournalState = record { alphabets = j.alphabets; history = c.push_call.new.self; sessions = length (set c.self.inside.made.items session (n + 1)); out = None } in
+    let j' : JournalState = record { alphabets = j.alphabets; history = c.push_call.new.self; sessions = length (set c.self.inside.made.items session (n + 1)); out = None; gathered = c.forget.new.gathered.items } in
     let state : List Entry → ℕ → ℕ → JournalState =
-    λ es most sessions. (let history : History = record { entries = es; capacity = most } in record { alphabets = j.alphabets; history = history; sessions = sessions; out = None }) in
+    λ es most sessions. (let history : History = record { entries = es; capacity = most } in record { alphabets = j.alphabets; history = history; sessions = sessions; out = None; gathered = nothing_gathered (length j.alphabets) }) in
     let same : with_entry j entry ≡ j' =
     ap (λ es. state es j.history.capacity j.sessions) (sym entries)
     ∙ ap (λ most. state c.push_call.new.self.entries most j.sessions) (sym capacity)
-    ∙ ap (λ sessions. state c.push_call.new.self.entries c.push_call.new.self.capacity sessions) (sym (length-set c.self.inside.made.items session (n + 1))) in
+    ∙ ap (λ sessions. state c.push_call.new.self.entries c.push_call.new.self.capacity sessions) (sym (length-set c.self.inside.made.items session (n + 1)))
+    ∙ ap (λ g. record j' { gathered = g }) (sym (c.forget.ensures ∙ ap nothing_gathered c.self.invariant.gathered)) in
     record {
       network = c.self.invariant.network;
       most = (let most = c.self.invariant.most in omega arith);
@@ -73,4 +76,5 @@ invariant_of-self c =
           (streams_more j p c.args.decision.now c.self.inside.streams.items c.tell.new.streams c.self.invariant.streams
           (subst (λ before. AreTold c.self.inside.network p.event c.args.decision.now before c.tell.new.streams) c.deref_mut.ensures.value c.tell.ensures)));
       out = λ q none. absurd (none-some q none);
+      gathered = ap (λ g. length g) c.forget.ensures ∙ length-replicate (length c.self.inside.gathered.items) nothing_told ∙ c.self.invariant.gathered;
     }

@@ -26,26 +26,26 @@ sites c = with_items_is c.self.inside.sites c.act.new.sites (c.act.auto.sites �
 
 -- the next world of the machine is that of these parts
 made : (c : After-act) (G : Rules) (C : List Set) (M : Marking) → IsRight G C M (world_of c.self.inside)
-    → sending (world_with c.self.inside.opening c.act.new.journal c.act.new.sites c.self.inside.sent.items) c.act.result ≡ happens G C (world_of c.self.inside) c.args.event
+    → sending (world_with c.self.inside.opening c.act.new.journal c.act.new.sites c.self.inside.sent.items c.self.inside.questions.items c.self.inside.answers.items) c.act.result ≡ happens G C (world_of c.self.inside) c.args.event
 made c G C M right =
     parts_happened G C M (world_of c.self.inside) right c.args.event c.deref_mut.result.now c.act.new.sites c.deref.result.now c.act.new.journal c.act.result
     c.deref_mut.ensures.value (c.deref.ensures.value ∙ c.reserve.ensures.items) c.act.ensures
 
 -- the world with these messages is the machine's
 is_next : (c : After-act) (G : Rules) (C : List Set) (M : Marking) → IsRight G C M (world_of c.self.inside) → (messages : List Message) (answer : Option Message) → c.act.result ≡ answer
-    → (sending (world_with c.self.inside.opening c.act.new.journal c.act.new.sites c.self.inside.sent.items) answer).sent ≡ messages
-    → world_with c.self.inside.opening c.act.new.journal (with_items c.self.inside.sites c.act.new.sites).items messages ≡ happens G C (world_of c.self.inside) c.args.event
+    → (sending (world_with c.self.inside.opening c.act.new.journal c.act.new.sites c.self.inside.sent.items c.self.inside.questions.items c.self.inside.answers.items) answer).sent ≡ messages
+    → world_with c.self.inside.opening c.act.new.journal (with_items c.self.inside.sites c.act.new.sites).items messages c.self.inside.questions.items c.self.inside.answers.items ≡ happens G C (world_of c.self.inside) c.args.event
 is_next c G C M right messages answer is same =
-    ap (λ s. world_with c.self.inside.opening c.act.new.journal s messages) (sites c)
+    ap (λ s. world_with c.self.inside.opening c.act.new.journal s messages c.self.inside.questions.items c.self.inside.answers.items) (sites c)
     ∙ by_answer answer same
-    ∙ ap (sending (world_with c.self.inside.opening c.act.new.journal c.act.new.sites c.self.inside.sent.items)) (sym is)
+    ∙ ap (sending (world_with c.self.inside.opening c.act.new.journal c.act.new.sites c.self.inside.sent.items c.self.inside.questions.items c.self.inside.answers.items)) (sym is)
     ∙ made c G C M right
   where
-    by_answer : (o : Option Message) → (sending (world_with c.self.inside.opening c.act.new.journal c.act.new.sites c.self.inside.sent.items) o).sent ≡ messages
-        → world_with c.self.inside.opening c.act.new.journal c.act.new.sites messages
-        ≡ sending (world_with c.self.inside.opening c.act.new.journal c.act.new.sites c.self.inside.sent.items) o
-    by_answer None sent = ap (world_with c.self.inside.opening c.act.new.journal c.act.new.sites) (sym sent)
-    by_answer (Some m) sent = ap (world_with c.self.inside.opening c.act.new.journal c.act.new.sites) (sym sent)
+    by_answer : (o : Option Message) → (sending (world_with c.self.inside.opening c.act.new.journal c.act.new.sites c.self.inside.sent.items c.self.inside.questions.items c.self.inside.answers.items) o).sent ≡ messages
+        → world_with c.self.inside.opening c.act.new.journal c.act.new.sites messages c.self.inside.questions.items c.self.inside.answers.items
+        ≡ sending (world_with c.self.inside.opening c.act.new.journal c.act.new.sites c.self.inside.sent.items c.self.inside.questions.items c.self.inside.answers.items) o
+    by_answer None sent = ap (λ s. world_with c.self.inside.opening c.act.new.journal c.act.new.sites s c.self.inside.questions.items c.self.inside.answers.items) (sym sent)
+    by_answer (Some m) sent = ap (λ s. world_with c.self.inside.opening c.act.new.journal c.act.new.sites s c.self.inside.questions.items c.self.inside.answers.items) (sym sent)
 
 -- where a message was sent
 sent_one : (c : After-push_reserved) → c.self.inside.sent.items ++ c.in-Some.message ∷ [] ≡ c.push_reserved.new.self.items
@@ -97,7 +97,7 @@ pub returns-in-Some-clause-kept : goal.returns-in-Some-clause-kept
 returns-in-Some-clause-kept c =
     let b = (goal.at.returns-in-Some-clause-kept c).After-act in
     let rules = c.self.invariant.0 in let owned = c.self.invariant.1 in let right = c.self.invariant.2 in
-    subst (λ w. IsKept w (world_with c.self.inside.opening c.act.new.journal (with_items c.self.inside.sites c.act.new.sites).items c.push_reserved.new.self.items)) c.self.view_is
+    subst (λ w. IsKept w (world_with c.self.inside.opening c.act.new.journal (with_items c.self.inside.sites c.act.new.sites).items c.push_reserved.new.self.items c.self.inside.questions.items c.self.inside.answers.items)) c.self.view_is
     (subst (IsKept (world_of c.self.inside))
     (sym (is_next b rules owned c.self.inside.opening right c.push_reserved.new.self.items (Some c.in-Some.message) c.in-Some.is (sent_one c)))
     (happens_keeps rules owned (world_of c.self.inside) c.args.event))
@@ -119,7 +119,7 @@ pub returns-in_default-clause-kept : goal.returns-in_default-clause-kept
 returns-in_default-clause-kept c =
     let b = (goal.at.returns-in_default-clause-kept c).After-act in
     let rules = c.self.invariant.0 in let owned = c.self.invariant.1 in let right = c.self.invariant.2 in
-    subst (λ w. IsKept w (world_with c.self.inside.opening c.act.new.journal (with_items c.self.inside.sites c.act.new.sites).items c.reserve.new.self.items)) c.self.view_is
+    subst (λ w. IsKept w (world_with c.self.inside.opening c.act.new.journal (with_items c.self.inside.sites c.act.new.sites).items c.reserve.new.self.items c.self.inside.questions.items c.self.inside.answers.items)) c.self.view_is
     (subst (IsKept (world_of c.self.inside))
     (sym (is_next b rules owned c.self.inside.opening right c.reserve.new.self.items None c.in_default.is (sym c.reserve.ensures.items)))
     (happens_keeps rules owned (world_of c.self.inside) c.args.event))

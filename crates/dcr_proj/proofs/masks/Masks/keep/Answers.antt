@@ -1,6 +1,7 @@
-use Rattle.std.proofs.Common.{sym, ap, subst, ◌∙◌}
+use Rattle.std.proofs.Common.{sym, ap, length, subst, ◌∙◌}
 use Rattle.std.specs.Prelude.{IfSome}
-use Rattle.dcr_set.specs.EventSet.{no_event}
+use Rattle.dcr_set.specs.EventSet.{has, no_event}
+use Rattle.dcr_set.proofs.LeastLemmas.{least-some}
 use Rattle.dcr_graph.specs.Rows.{row}
 use Rattle.dcr_proj.specs.Masks.{HasAlone}
 use Rattle.dcr_proj.proofs.MaskLemmas.{nothing_first, alone_there}
@@ -11,6 +12,9 @@ pub returns-in_default-clause-mask : goal.returns-in_default-clause-mask
 returns-in_default-clause-mask c =
     ap (row c.args.self.now.sets.items.items) c.nothing.ensures.number ∙ c.args.self.now.masks.nothing ∙ ap no_event (sym c.requires.room)
     ∙ sym (nothing_first c.args.mask (sym c.first.ensures ∙ c.in_default.is))
+
+pub has_others-requires : goal.has_others-requires
+has_others-requires c = (least-some (length c.args.mask) (has c.args.mask) c.in-Some.e (sym c.first.ensures ∙ c.in-Some.is)).below
 
 pub returns-clause-place : goal.returns-clause-place
 returns-clause-place c =

@@ -1,7 +1,10 @@
 use Rattle.std.proofs.Common.{ℕ, ◌≡◌, ◌≤◌, length, get_or, replicate, refl, sym, subst, ap, ◌∙◌, arith}
 use Rattle.std.specs.List.{All}
 use Rattle.std.proofs.lemmas.List.{get_or-replicate, length-replicate}
-use Rattle.std.proofs.lemmas.List.Elements.{All-replicate}
+use Rattle.std.proofs.lemmas.List.Elements.{All-nil, All-replicate}
+use Rattle.dcr_journal.specs.declared.call.Entry.{Entry}
+use Rattle.dcr_journal.specs.declared.call.Outcome.TheVariants.{Faulted}
+use Rattle.dcr_replay.proofs.WrongLemmas.{none_yet}
 use Rattle.dcr_replay.proofs.entries.Run.open.Goals as goal
 use Rattle.dcr_replay.proofs.entries.Run.open.Goals.{In_ok-made}
 
@@ -21,12 +24,11 @@ returns-clause-sound c = record {
 }
 
 pub returns-clause-stands : goal.returns-clause-stands
-returns-clause-stands c = record {
-  rules = refl;
-  names = refl;
-  cover = refl;
-  marking = c.in_ok-plain.ensures.marking;
+returns-clause-stands c = λ S over opening. record {
+  over = over;
+  legal = none_yet S;
+  marking = c.in_ok-plain.ensures.marking ∙ opening;
   counted = refl;
   made = λ session below. ap (λ items. get_or items session 0) (zeros c) ∙ get_or-replicate 1024 session 0 0 below;
-  faulted = refl;
+  faulted = All-nil (λ (entry : Entry). entry.outcome ≡ Faulted → ⊥);
 }

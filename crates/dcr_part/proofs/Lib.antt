@@ -1,0 +1,11 @@
+pub mod RangeLemmas
+pub mod RuleLemmas
+pub mod JsonLemmas
+pub mod TextLemmas
+pub mod ReadLemmas
+pub mod FrontLemmas
+pub mod PairLemmas
+pub mod EventLemmas
+pub mod MemberLemmas
+pub mod WholeLemmas
+pub mod NameLemmas
