@@ -3,8 +3,9 @@ use Rattle.std.proofs.Common.{◌≡◌, ℕ, suc, ◌+◌, ◌<◌, inl, inr, L
 use Rattle.std.specs.List.{slice_get}
 use Rattle.std.proofs.lemmas.Bool.{cases_lt}
 use Rattle.std.proofs.lemmas.Option.{same_Some}
-use Rattle.dcr_shape.specs.Stages.{next_stage, each_from}
-use Rattle.dcr_shape.proofs.EachLemmas.{OneRead, went, halted, EachRead, all_read, first_not, each_read_from}
+use Rattle.dcr_roles.specs.Stages.{next_stage}
+use Rattle.dcr_adapt.specs.Each.{each_from}
+use Rattle.dcr_adapt.proofs.FromLemmas.{OneRead, went, halted, EachRead, all_read, first_not, each_read_from}
 
 module _ {A B E : Type 0} (read : ℕ → A → Result B E) where
   -- each before this one was read

@@ -1,4 +1,5 @@
 pub mod LineLemmas
+pub mod FromLemmas
 pub mod EachLemmas
 pub mod StageLemmas
 pub mod RefusalLemmas

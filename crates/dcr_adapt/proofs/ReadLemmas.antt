@@ -8,14 +8,14 @@ use Rattle.std.proofs.lemmas.List.{drop_more, get_or_push, length-drop, length_p
 use Rattle.std.proofs.lemmas.List.Elements.{All-nil, All-push}
 use Rattle.std.proofs.lemmas.Option.{slice_get-get_or}
 use Rattle.std.proofs.lemmas.Slice.Zip.{all_zipped_more}
-use Rattle.dcr_shape.specs.Stages.{each_from}
-use Rattle.dcr_written.proofs.StageLemmas.{from_step, from_stop, from_end}
+use Rattle.dcr_adapt.specs.Each.{each_from}
+use Rattle.dcr_adapt.proofs.FromLemmas.{from_step, from_stop, from_end}
 use Rattle.dcr_json.specs.Built.{case_of, IsCase}
 use Rattle.dcr_json.specs.Case.{case_in}
-use Rattle.dcr_json.specs.Judged.{Spelled}
+use Rattle.dcr_json.specs.Written.{Spelled}
 use Rattle.dcr_json.specs.declared.case.Case.{Case}
-use Rattle.dcr_json.specs.declared.case.CaseStop.TheVariants.{TooLong}
-use Rattle.dcr_json.proofs.RefusalLemmas.{comes}
+use Rattle.dcr_format.specs.declared.stop.CaseStop.TheVariants.{TooLong}
+use Rattle.dcr_json.proofs.RefusalLemmas.{file_long, file_refused}
 use Rattle.dcr_roles.specs.Accepted.{accepted_in}
 use Rattle.dcr_roles.specs.Laws.{AcceptsCase}
 use Rattle.dcr_adapt.specs.Stages.{case_before, case_if_accepted, line_texts, stage_in, stages_from}
@@ -38,7 +38,7 @@ last_of cases = option_map case_of (slice_get cases (length cases - 1))
 -- it is not too long then
 short_spelled : (text : List ℕ) (case : Case) → Accepts text case → length text ≤ 16777216
 short_spelled text case accepts = elim (cases_lt 16777216 (length text)) [
-  | inl long ↦ absurd (let wrong = sym (comes text TooLong long) ∙ accepted_spelled text (case_of case) accepts in cc)
+  | inl long ↦ absurd (let wrong = sym (file_refused text TooLong (file_long text long)) ∙ accepted_spelled text (case_of case) accepts in cc)
   | inr not_long ↦ omega (arith, not_long)
 ]
 

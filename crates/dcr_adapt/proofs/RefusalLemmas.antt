@@ -3,9 +3,9 @@ use Rattle.std.proofs.Common.{◌≡◌, ℕ, ◌<◌, ◌⊎◌, inl, inr, Bool
 use Rattle.std.specs.List.{slice_get}
 use Rattle.std.proofs.lemmas.Bool.Decides.{leb_tells}
 use Rattle.std.proofs.lemmas.Option.{same_Some, slice_get-get_or, slice_get_within}
-use Rattle.dcr_shape.specs.Stages.{next_stage}
-use Rattle.dcr_written.proofs.StageLemmas.{from_length, each_read}
-use Rattle.dcr_json.specs.Judged.{Spelled}
+use Rattle.dcr_roles.specs.Stages.{next_stage}
+use Rattle.dcr_adapt.proofs.FromLemmas.{from_length, each_read}
+use Rattle.dcr_json.specs.Written.{Spelled}
 use Rattle.dcr_roles.specs.declared.accepted.AcceptStop.{AcceptStop}
 use Rattle.dcr_roles.specs.declared.accepted.AcceptStop.TheVariants as cause
 use Rattle.dcr_adapt.specs.Stages.{by_line, case_before, line_texts, counted, stages_from, stages_in}

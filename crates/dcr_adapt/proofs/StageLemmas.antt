@@ -8,10 +8,11 @@ use Rattle.std.proofs.lemmas.Option.{get_or_from_slice_get, slice_get-get_or, sl
 use Rattle.std.proofs.lemmas.Slice.Eq.{bytes_eq-Decides}
 use Rattle.dcr_set.proofs.LeastLemmas.{least-some, least-none, least-from, least-none_from}
 use Rattle.dcr_graph.specs.Names.{number_of}
-use Rattle.dcr_shape.specs.Stages.{next_stage}
-use Rattle.dcr_reading.specs.Accepted.{atom_names}
+use Rattle.dcr_roles.specs.Stages.{next_stage}
+use Rattle.dcr_graph_json.specs.Build.{atom_names}
 use Rattle.dcr_json.specs.Case.{case_in}
-use Rattle.dcr_json.specs.Judged.{Spelled, name_at}
+use Rattle.dcr_json.specs.Written.{Spelled}
+use Rattle.dcr_line.specs.Line.{name_of as name_at}
 use Rattle.dcr_json.proofs.RefusalLemmas.{cases_law}
 use Rattle.dcr_roles.specs.Accepted.{accepted_in, SpelledBoth}
 use Rattle.dcr_roles.specs.Laws.{AcceptsCase}

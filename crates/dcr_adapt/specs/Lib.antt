@@ -1,3 +1,4 @@
+pub mod Each
 pub mod Carried
 pub mod Stages
 pub mod Refusals

@@ -1,8 +1,9 @@
 -- When each refusal of stages comes, and when a text is stages, in words.
 use Rattle.std.specs.Prelude.{◌≡◌, ◌≢◌, ◌↔◌, ℕ, ◌+◌, ◌<◌, ◌≤◌, List, length, Some, Ok, Err}
 use Rattle.std.specs.List.{slice_get}
-use Rattle.dcr_reading.specs.Accepted.{atom_names}
-use Rattle.dcr_json.specs.Judged.{Spelled, name_at}
+use Rattle.dcr_graph_json.specs.Build.{atom_names}
+use Rattle.dcr_json.specs.Written.{Spelled}
+use Rattle.dcr_line.specs.Line.{name_of as name_at}
 use Rattle.dcr_roles.specs.Accepted.{accepted_in}
 use Rattle.dcr_roles.specs.Laws.{AcceptsCase}
 use Rattle.dcr_roles.specs.declared.accepted.AcceptStop.{AcceptStop}

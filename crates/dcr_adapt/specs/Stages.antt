@@ -5,9 +5,11 @@ use Rattle.std.specs.Result.{MatchResult, result_ok}
 use Rattle.dcr_text.specs.Lines.{Line, lines_of}
 use Rattle.dcr_set.specs.Least.{least}
 use Rattle.dcr_graph.specs.Names.{number_of}
-use Rattle.dcr_shape.specs.Stages.{◌>>=◌, each_from}
-use Rattle.dcr_reading.specs.Accepted.{atom_names}
-use Rattle.dcr_json.specs.Judged.{Spelled, name_at}
+use Rattle.dcr_roles.specs.Stages.{◌>>=◌}
+use Rattle.dcr_adapt.specs.Each.{each_from}
+use Rattle.dcr_graph_json.specs.Build.{atom_names}
+use Rattle.dcr_json.specs.Written.{Spelled}
+use Rattle.dcr_line.specs.Line.{name_of as name_at}
 use Rattle.dcr_roles.specs.Accepted.{accepted_in, SpelledBoth}
 use Rattle.dcr_roles.specs.declared.accepted.AcceptStop.{AcceptStop}
 use Rattle.dcr_roles.specs.declared.accepted.AcceptStop.TheVariants as cause

@@ -26,7 +26,7 @@ use Rattle.dcr_link.proofs.PieceLemmas.{added_then}
 use Rattle.dcr_engine.specs.Laws.{OrderedIsTold}
 use Rattle.dcr_engine.specs.Ran.{HasRun, cluster_of}
 use Rattle.dcr_json.specs.Built.{IsCase, case_of}
-use Rattle.dcr_json.specs.Judged.{Spelled}
+use Rattle.dcr_json.specs.Written.{Spelled}
 use Rattle.dcr_json.specs.declared.case.Case.{Case}
 use Rattle.dcr_report.specs.Report.{report_text}
 use Rattle.dcr_replay.specs.Laws.{IsReport}

@@ -14,7 +14,7 @@ use Rattle.dcr_node.specs.WorldState.{WorldState}
 use Rattle.dcr_tape.specs.Laws.{NoCause, OneList}
 use Rattle.dcr_serving.specs.declared.end.LinkEnd.{LinkEnd}
 use Rattle.dcr_engine.specs.Laws.{OrderedIsTold}
-use Rattle.dcr_json.specs.Judged.{Spelled}
+use Rattle.dcr_json.specs.Written.{Spelled}
 use Rattle.dcr_adapt.specs.Stages.{stages_in}
 use Rattle.dcr_log.specs.Records.{first_bad}
 use Rattle.dcr_replay.specs.OneVerdict.{VerdictIsOne}

@@ -18,7 +18,7 @@ use Rattle.dcr_tape.specs.declared.entry.TapeEntry.{TapeEntry}
 use Rattle.dcr_cluster.specs.Opening.{ArePossible, IsFirstBad}
 use Rattle.dcr_engine.specs.Served.{most_served}
 use Rattle.dcr_serving.specs.declared.end.LinkEnd.{LinkEnd}
-use Rattle.dcr_json.specs.Judged.{Spelled}
+use Rattle.dcr_json.specs.Written.{Spelled}
 use Rattle.dcr_roles.specs.Accepted.{case_accepted}
 use Rattle.dcr_roles.specs.Laws.{AcceptedAreTheFormats}
 use Rattle.dcr_report.specs.Report.{report_text}

@@ -10,8 +10,8 @@ use Rattle.dcr_journal.specs.declared.closed.Closed.{Closed}
 use Rattle.dcr_graph.specs.GraphValue.{Flat}
 use Rattle.dcr_nest.specs.FlatRelation.{IsFlattening}
 use Rattle.dcr_line.proofs.PiecesLemmas.{pieces_at, pieces_whole}
-use Rattle.dcr_json.specs.Judged.{Spelled}
-use Rattle.dcr_json.specs.declared.case.CaseStop.TheVariants as stop
+use Rattle.dcr_json.specs.Written.{Spelled}
+use Rattle.dcr_format.specs.declared.stop.CaseStop.TheVariants as stop
 use Rattle.dcr_log.specs.Records.{first_bad}
 use Rattle.dcr_log.specs.Traces.{traces_of}
 use Rattle.dcr_log.specs.declared.trace.Trace.{Trace}

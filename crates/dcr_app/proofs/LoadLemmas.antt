@@ -17,7 +17,7 @@ use Rattle.dcr_journal.specs.declared.call.Call.{Call}
 use Rattle.dcr_journal.specs.declared.call.Entry.{Entry}
 use Rattle.dcr_journal.specs.declared.closed.Closed.{Closed}
 use Rattle.dcr_json.specs.Built.{IsCase, case_of}
-use Rattle.dcr_json.specs.Judged.{Spelled}
+use Rattle.dcr_json.specs.Written.{Spelled}
 use Rattle.dcr_json.specs.declared.case.Case.{Case}
 use Rattle.dcr_replay.specs.EntryLines.{is_done}
 use Rattle.dcr_report.proofs.Passing.{drop_at_get}

@@ -35,7 +35,7 @@ use Rattle.dcr_cluster.specs.declared.refused.OpenCause.{OpenCause}
 use Rattle.dcr_cluster.specs.declared.refused.OpenCause.TheVariants as opening
 use Rattle.dcr_engine.specs.Ran.{IsWhole, cluster_of}
 use Rattle.dcr_json.specs.Built.{IsCase, case_of}
-use Rattle.dcr_json.specs.Judged.{Spelled}
+use Rattle.dcr_json.specs.Written.{Spelled}
 use Rattle.dcr_json.specs.declared.case.Case.{Case}
 use Rattle.dcr_report.specs.Report.{report_text}
 use Rattle.dcr_policy.specs.Roles.{Roles}

@@ -21,7 +21,7 @@ use Rattle.dcr_graph.specs.Rules.{Rules}
 use Rattle.dcr_journal.specs.declared.closed.Closed.{Closed}
 use Rattle.dcr_line.specs.Known.{AreNames}
 use Rattle.dcr_json.specs.Built.{IsCase, case_of}
-use Rattle.dcr_json.specs.Judged.{Spelled}
+use Rattle.dcr_json.specs.Written.{Spelled}
 use Rattle.dcr_json.specs.declared.case.Case.{Case}
 use Rattle.dcr_part.specs.Told.{AreDistinct, are_one, told_names}
 use Rattle.dcr_part.specs.Whole.{AreToldNames, IsWhole, alphabet_of, part_text, whole}

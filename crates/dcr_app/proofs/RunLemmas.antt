@@ -1,8 +1,7 @@
 -- What the run of a case is told by.
-use Rattle.std.proofs.Common.{◌≡◌, ◌⊎◌, ℕ, ◌<◌, ◌≤◌, arith, Bool, true, false, List, length, Option, Some, None, Result, Ok, Err, inl, inr, refl, sym, ap, subst, ◌∙◌, cond}
+use Rattle.std.proofs.Common.{◌≡◌, ◌⊎◌, ℕ, ◌<◌, ◌≤◌, arith, Bool, true, false, List, length, Option, Some, None, Result, Ok, Err, inl, inr, refl, sym, ap, subst, ◌∙◌}
 use Rattle.std.specs.Prelude.{◌↔◌, ⊤, slice_get}
 use Rattle.std.specs.List.{All}
-use Rattle.std.proofs.lemmas.Bool.{lt-leb}
 use Rattle.std.proofs.lemmas.Option.{slice_get_within, get_or_from_slice_get}
 use Rattle.std.proofs.lemmas.List.Elements.{All-weaker}
 use Rattle.dcr_base.specs.Disk.{DiskView}
@@ -27,13 +26,14 @@ use Rattle.dcr_work.specs.Order.{IsInWorkerOrder}
 use Rattle.dcr_engine.specs.Laws.{OrderedIsTold}
 use Rattle.dcr_replay.specs.Laws.{IsReport}
 use Rattle.dcr_report.specs.Report.{report_text}
-use Rattle.dcr_shape.specs.Stages.{◌>>=◌}
+use Rattle.dcr_roles.specs.Stages.{◌>>=◌}
 use Rattle.dcr_json.specs.Case.{file_in}
 use Rattle.dcr_json.specs.Built.{IsCase}
-use Rattle.dcr_json.specs.Judged.{Spelled}
+use Rattle.dcr_json.specs.Written.{Spelled}
 use Rattle.dcr_json.specs.declared.case.Case.{Case}
-use Rattle.dcr_json.specs.declared.case.CaseStop.{CaseStop}
-use Rattle.dcr_json.specs.declared.case.CaseStop.TheVariants as stop
+use Rattle.dcr_format.specs.declared.stop.CaseStop.{CaseStop}
+use Rattle.dcr_json.proofs.RefusalLemmas.{file_long}
+use Rattle.dcr_format.specs.declared.stop.CaseStop.TheVariants as stop
 use Rattle.serde_json.specs.Data.{Data}
 use Rattle.dcr_policy.specs.Roles.{Roles}
 use Rattle.dcr_roles.specs.Accepted.{SpelledBoth, accepted_in, case_accepted, of_case}
@@ -139,19 +139,12 @@ report_of_run case closed most is run few sessions entries =
 
 -- ---- a file that is too long
 
-stops : {A B : Type 0} (o : Result A CaseStop) (f : A → Result B CaseStop) (why : CaseStop) → o ≡ Err why → (o >>= f) ≡ Err why
-stops o f why is = ap (λ r. r >>= f) is
-
-long_file : (bytes : List ℕ) → 16777216 < length bytes → file_in bytes ≡ Err stop.TooLong
-unfolding file_in
-long_file bytes more = stops _ _ stop.TooLong (ap (λ t. cond t (Ok bytes) (Err stop.TooLong)) (lt-leb (length bytes) 16777216 more))
-
 stops_both : {B : Type 0} (o : Result Data CaseStop) (f : Data → Result B AcceptStop) (why : CaseStop) → o ≡ Err why → (of_case o >>= f) ≡ Err (accept.Case why)
 stops_both o f why is = ap (λ r. of_case r >>= f) is
 
 pub too_long : (bytes : List ℕ) → 16777216 < length bytes → case_accepted bytes ≡ Err (accept.Case stop.TooLong)
 unfolding accepted_in
-too_long bytes more = case_of_stop bytes (accept.Case stop.TooLong) (stops_both (file_in bytes) _ stop.TooLong (long_file bytes more))
+too_long bytes more = case_of_stop bytes (accept.Case stop.TooLong) (stops_both (file_in bytes) _ stop.TooLong (file_long bytes more))
 
 -- ---- the case that is told
 

@@ -19,7 +19,7 @@ use Rattle.dcr_tape.specs.declared.entry.TapeEntry.{TapeEntry}
 use Rattle.dcr_tape.specs.declared.tape.Tape.{Tape}
 use Rattle.dcr_tape.proofs.OpenLemmas.{made_holds}
 use Rattle.dcr_cell.specs.Stored.{StandsForSome, TapeStands, executions, failed_executions, kept_for, tried_for}
-use Rattle.dcr_json.specs.Judged.{Spelled}
+use Rattle.dcr_json.specs.Written.{Spelled}
 use Rattle.dcr_roles.specs.Accepted.{case_accepted}
 use Rattle.dcr_app.specs.Headline.{StoodFor, digest_of}
 use Rattle.dcr_app.specs.Outside.{WereLeft}

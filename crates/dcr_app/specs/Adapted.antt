@@ -14,7 +14,7 @@ use Rattle.dcr_journal.specs.Run.{after, marks_at, told}
 use Rattle.dcr_journal.specs.declared.call.Call.{Call}
 use Rattle.dcr_journal.specs.declared.call.Entry.{Entry}
 use Rattle.dcr_journal.specs.declared.closed.Closed.{Closed}
-use Rattle.dcr_json.specs.Judged.{Spelled}
+use Rattle.dcr_json.specs.Written.{Spelled}
 use Rattle.dcr_report.specs.Report.{report_text}
 use Rattle.dcr_replay.specs.Laws.{IsReport}
 use Rattle.dcr_adapt.specs.Carried.{carried}

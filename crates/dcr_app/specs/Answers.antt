@@ -22,8 +22,8 @@ use Rattle.dcr_engine.specs.Served.{most_served}
 use Rattle.dcr_node.specs.WorldState.{WorldState}
 use Rattle.dcr_schedule.specs.Apart.{HasRunApart}
 use Rattle.dcr_schedule.specs.Executions.{exec_calls}
-use Rattle.dcr_json.specs.Judged.{Spelled}
-use Rattle.dcr_json.specs.declared.case.CaseStop.TheVariants as stop
+use Rattle.dcr_json.specs.Written.{Spelled}
+use Rattle.dcr_format.specs.declared.stop.CaseStop.TheVariants as stop
 use Rattle.dcr_adapt.specs.Stages.{stages_in}
 use Rattle.dcr_adapt.specs.declared.stop.StageStop.{StageStop}
 use Rattle.dcr_adapt.specs.declared.stop.StageStop.TheVariants as stage

@@ -15,7 +15,7 @@ use Rattle.dcr_tape.specs.Tape.{StandsFor}
 use Rattle.dcr_tape.specs.declared.entry.TapeEntry.{TapeEntry}
 use Rattle.dcr_tape.specs.declared.tape.Store.{Store}
 use Rattle.dcr_cell.specs.ClusterId.{ClusterId, begun}
-use Rattle.dcr_json.specs.Judged.{Spelled}
+use Rattle.dcr_json.specs.Written.{Spelled}
 use Rattle.dcr_policy.specs.Roles.{Roles}
 use Rattle.dcr_roles.specs.Laws.{SpellsBoth}
 use Rattle.dcr_report.specs.Report.{digested_text, report_text}

@@ -6,8 +6,8 @@ use Rattle.dcr_base.specs.declared.status.Status.TheVariants.{Done, Refused, NoM
 use Rattle.dcr_text.specs.Lines.{pieces_of}
 use Rattle.dcr_graph.specs.GraphValue.{Flat}
 use Rattle.dcr_nest.specs.FlatRelation.{IsFlattening}
-use Rattle.dcr_json.specs.Judged.{Spelled}
-use Rattle.dcr_json.specs.declared.case.CaseStop.TheVariants as stop
+use Rattle.dcr_json.specs.Written.{Spelled}
+use Rattle.dcr_format.specs.declared.stop.CaseStop.TheVariants as stop
 use Rattle.dcr_log.specs.Records.{Record, first_bad, records_of}
 use Rattle.dcr_log.specs.Traces.{traces_of}
 use Rattle.dcr_conform.specs.Judge.{AreJudged}

@@ -7,7 +7,7 @@ use Rattle.dcr_base.specs.declared.reading.ReadStop.{ReadStop}
 use Rattle.dcr_base.specs.declared.reading.ReadStop.TheVariants as read
 use Rattle.dcr_base.specs.declared.status.Status.{Status}
 use Rattle.dcr_base.specs.declared.status.Status.TheVariants.{Done, Refused, ReadFault, WriteFault, NoMemory}
-use Rattle.dcr_json.specs.declared.case.CaseStop.TheVariants as stop
+use Rattle.dcr_format.specs.declared.stop.CaseStop.TheVariants as stop
 use Rattle.dcr_app.specs.Refusal.{case_line}
 use Rattle.dcr_app.specs.declared.command.Command.{Command}
 use Rattle.dcr_app.specs.declared.command.Command.TheVariants.{Read}

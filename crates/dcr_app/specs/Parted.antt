@@ -4,7 +4,7 @@ use Rattle.dcr_base.specs.Side.{Side}
 use Rattle.dcr_base.specs.declared.status.Status.{Status}
 use Rattle.dcr_base.specs.declared.status.Status.TheVariants.{Done, Refused, NoMemory}
 use Rattle.dcr_graph.specs.Names.{number_of}
-use Rattle.dcr_json.specs.Judged.{Spelled}
+use Rattle.dcr_json.specs.Written.{Spelled}
 use Rattle.dcr_part.specs.Whole.{Whole, IsWhole, part_text, whole}
 use Rattle.dcr_roles.specs.Accepted.{HadMemory, case_accepted}
 use Rattle.dcr_roles.specs.Laws.{AcceptsCase}

@@ -1,11 +1,11 @@
 -- The line that tells a refusal.
 use Rattle.std.specs.Prelude.{ℕ, List, [], ◌++◌, codes, decimal}
-use Rattle.dcr_shape.specs.declared.stop.Part.{Part}
-use Rattle.dcr_shape.specs.declared.stop.Part.TheVariants.{Top, Graph, Event, Relation, Cover, Site, Sessions, Session}
-use Rattle.dcr_shape.specs.declared.stop.LimitKind.{LimitKind}
-use Rattle.dcr_shape.specs.declared.stop.LimitKind.TheVariants as kind
-use Rattle.dcr_json.specs.declared.case.CaseStop.{CaseStop}
-use Rattle.dcr_json.specs.declared.case.CaseStop.TheVariants.{TooLong, NotJson, Shape, Limit, EventName, Parent, MarkOnNest, RelationEnd, Clash, SiteName, Owned, Uncovered, CallLine, NoMemory}
+use Rattle.dcr_format.specs.declared.stop.Part.{Part}
+use Rattle.dcr_format.specs.declared.stop.Part.TheVariants.{Top, Graph, Event, Relation, Cover, Site, Sessions, Session}
+use Rattle.dcr_format.specs.declared.stop.LimitKind.{LimitKind}
+use Rattle.dcr_format.specs.declared.stop.LimitKind.TheVariants as kind
+use Rattle.dcr_format.specs.declared.stop.CaseStop.{CaseStop}
+use Rattle.dcr_format.specs.declared.stop.CaseStop.TheVariants.{TooLong, NotJson, Shape, Limit, EventName, Parent, MarkOnNest, RelationEnd, Clash, SiteName, Owned, Uncovered, CallLine, NoMemory}
 use Rattle.dcr_roles.specs.declared.accepted.AcceptStop.{AcceptStop}
 use Rattle.dcr_roles.specs.declared.accepted.AcceptStop.TheVariants as accept
 use Rattle.dcr_roles.specs.declared.stop.PolicyPart.{PolicyPart}

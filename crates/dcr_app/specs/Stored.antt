@@ -26,7 +26,7 @@ use Rattle.dcr_cluster.specs.Opening.{ArePossible, IsFirstBad, Refused}
 use Rattle.dcr_cluster.specs.declared.refused.OpenCause.{OpenCause}
 use Rattle.dcr_cluster.specs.declared.refused.OpenCause.TheVariants as opening
 use Rattle.dcr_engine.specs.Ran.{IsWhole}
-use Rattle.dcr_json.specs.Judged.{Spelled}
+use Rattle.dcr_json.specs.Written.{Spelled}
 use Rattle.dcr_policy.specs.Roles.{Roles}
 use Rattle.dcr_report.specs.Report.{report_text}
 use Rattle.dcr_replay.specs.Laws.{IsReport}

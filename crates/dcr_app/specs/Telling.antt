@@ -20,7 +20,7 @@ use Rattle.dcr_link.specs.declared.end.WorkCause.TheVariants as cause
 use Rattle.dcr_serving.specs.declared.end.LinkEnd.{LinkEnd}
 use Rattle.dcr_engine.specs.Ran.{HasCalls}
 use Rattle.dcr_engine.specs.Served.{ServedIn, most_served}
-use Rattle.dcr_json.specs.Judged.{Spelled}
+use Rattle.dcr_json.specs.Written.{Spelled}
 use Rattle.dcr_app.specs.declared.command.Command.{Command}
 use Rattle.dcr_app.specs.declared.command.Command.TheVariants.{Read}
 use Rattle.dcr_app.specs.declared.command.Reading.TheVariants.{Execute}

@@ -7,7 +7,7 @@ ghost use Rattle.dcr_nest.specs.Tree.{AreEarlier};
 
 use crate::build::members;
 use crate::same::{same, same_text};
-use dcr_cover::{SiteText, check};
+use dcr_cover_json::{SiteText, check};
 use dcr_graph::{Label, Name};
 use dcr_nest::{Nested, Node, Version, atoms_of};
 use dcr_set::{EventId, SiteId};

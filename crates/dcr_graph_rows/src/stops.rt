@@ -1,7 +1,7 @@
 // Why there is no name, label, graph, cover, report or log, in words.
 use crate::same::same_text;
 use dcr_conform::LogStop;
-use dcr_cover::CoverStop;
+use dcr_cover_json::CoverStop;
 use dcr_graph::{GraphStop, Label, LabelStop, Name, NameStop};
 use dcr_report::ReportStop;
 use dcr_set::EventId;

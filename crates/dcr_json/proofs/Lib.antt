@@ -1,12 +1,11 @@
-pub mod JudgeLemmas
-pub mod KnownLemmas
+pub mod GivingLemmas
+pub mod FileLemmas
+pub mod RoomLemmas
 pub mod ClashLemmas
-pub mod CallsLemmas
+pub mod MemoryLemmas
+pub mod KnownLemmas
+pub mod RoundLemmas
 pub mod RefusalLemmas
 pub mod OpenLemmas
-mod ListLemmas
-mod EntryLemmas
-mod LengthLemmas
-mod CallTextLemmas
-mod WrittenLemmas
-pub mod FileLemmas
+pub mod AcceptedLemmas
+pub mod SpelledLemmas

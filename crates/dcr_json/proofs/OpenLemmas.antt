@@ -1,60 +1,81 @@
 -- The opening marking of a case by the members of its events.
-use Rattle.std.proofs.Common.{◌≡◌, ◌≢◌, ℕ, zero, suc, Bool, true, false, codes, List, [], ◌∷◌, length, Option, Some, None, option_map, refl, sym, ap, ◌∙◌, subst}
+use Rattle.std.proofs.Common.{◌≡◌, ◌≢◌, ℕ, Bool, true, false, codes, List, length, get_or, Option, Some, None, unwrap_or, refl, sym, ap, ◌∙◌, subst}
 use Rattle.std.specs.Prelude.{◌↔◌}
 use Rattle.std.specs.List.{slice_get}
-use Rattle.std.proofs.lemmas.Option.{same_Some}
-use Rattle.serde_json.specs.Data.{Data, boolean}
-use Rattle.serde_json.specs.Find.{get}
-use Rattle.dcr_graph.specs.declared.marking.Marking.{Marking}
-use Rattle.dcr_nest.specs.Nest.{Nest, parents_of}
+use Rattle.std.specs.Option.{option_and_then}
+use Rattle.std.proofs.lemmas.List.{length-map}
+use Rattle.std.proofs.lemmas.Option.{get_or_from_slice_get, slice_get_within, same_Some}
+use Rattle.serde_json.specs.Data.{Data, null, boolean, number, string, array, object}
+use Rattle.serde_json.specs.Find.{as_bool, get}
+use Rattle.dcr_set.specs.EventSet.{has, those}
+use Rattle.dcr_set.proofs.SetLemmas.{has-those}
+use Rattle.dcr_nest.specs.Nest.{parents_of}
 use Rattle.dcr_nest.specs.Tree.{atoms}
-use Rattle.dcr_shape.specs.Contents.{AreBeside, IsEventObject}
-use Rattle.dcr_shape.specs.Parts.{Event}
-use Rattle.dcr_shape.specs.Words.{graph_elements}
-use Rattle.dcr_written.specs.Contents.{IsNodeOf, IsOpening}
+use Rattle.dcr_graph_json.specs.Build.{nest_in, node_in, opening_in, opening_with}
+use Rattle.dcr_graph_json.specs.Written.{Written as Graph, event_at, names_in}
+use Rattle.dcr_format.specs.Members.{mark_at}
 use Rattle.dcr_json.specs.Opens.{OpensAs, OpensAsWritten, OpeningIsWritten}
+use Rattle.dcr_json.specs.Written.{spelled_in, written_in}
 use Rattle.dcr_json.proofs.RefusalLemmas.{cases_law}
+use Rattle.dcr_json.proofs.RoomLemmas.{room_with}
 
-length-beside : {A B : Type 0} (R : A → B → Type 0) (xs : List A) (ys : List B) → AreBeside R xs ys → length xs ≡ length ys
-length-beside R [] [] h = refl
-length-beside R [] (y ∷ ys) h = absurd h
-length-beside R (x ∷ xs) [] h = absurd h
-length-beside R (x ∷ xs) (y ∷ ys) h = ap suc (length-beside R xs ys h.1)
+is_true : (m : Option Data) → (unwrap_or (option_and_then as_bool m) false ≡ true) ↔ (m ≡ Some (boolean true))
+is_true None = ((λ e. absurd cc), (λ e. absurd cc))
+is_true (Some null) = ((λ e. absurd cc), (λ e. absurd cc))
+is_true (Some (boolean b)) = ((λ e. ap (λ c. Some (boolean c)) e), (λ e. (let same : b ≡ true = cc in same)))
+is_true (Some (number n)) = ((λ e. absurd cc), (λ e. absurd cc))
+is_true (Some (string s)) = ((λ e. absurd cc), (λ e. absurd cc))
+is_true (Some (array ds)) = ((λ e. absurd cc), (λ e. absurd cc))
+is_true (Some (object ms)) = ((λ e. absurd cc), (λ e. absurd cc))
 
-beside_at : {A B : Type 0} (R : A → B → Type 0) (xs : List A) (ys : List B) → AreBeside R xs ys → (i : ℕ) (x : A) → slice_get xs i ≡ Some x → (y : B) × (slice_get ys i ≡ Some y) × R x y
-beside_at R [] ys h i x e = absurd cc
-beside_at R (w ∷ xs) [] h i x e = absurd h
-beside_at {A = A} R (w ∷ xs) (y ∷ ys) h zero x e = (y, refl, subst (λ (v : A). R v y) (same_Some _ _ e) h.0)
-beside_at R (w ∷ xs) (y ∷ ys) h (suc i) x e = beside_at R xs ys h.1 i x e
+other_than_false : (b : Bool) → (b ≡ true) ↔ ((let m : Option Data = Some (boolean b) in m) ≢ Some (boolean false))
+other_than_false true = ((λ e f. absurd cc), (λ h. refl))
+other_than_false false = ((λ e. absurd cc), (λ h. absurd (h refl)))
 
-is_true : (m : Option Data) (o : Option Bool) → m ≡ option_map boolean o → (o ≡ Some true) ↔ (m ≡ Some (boolean true))
-is_true m None e = ((λ f. absurd cc), (λ f. let bad = sym e ∙ f in absurd cc))
-is_true m (Some b) e = ((λ f. e ∙ ap (option_map boolean) f), (λ f. let same = sym e ∙ f in cc))
+is_not_false : (m : Option Data) → (unwrap_or (option_and_then as_bool m) true ≡ true) ↔ (m ≢ Some (boolean false))
+is_not_false None = ((λ e f. absurd cc), (λ h. refl))
+is_not_false (Some null) = ((λ e f. absurd cc), (λ h. refl))
+is_not_false (Some (boolean b)) = other_than_false b
+is_not_false (Some (number n)) = ((λ e f. absurd cc), (λ h. refl))
+is_not_false (Some (string s)) = ((λ e f. absurd cc), (λ h. refl))
+is_not_false (Some (array ds)) = ((λ e f. absurd cc), (λ h. refl))
+is_not_false (Some (object ms)) = ((λ e f. absurd cc), (λ h. refl))
 
-is_not_false : (m : Option Data) (o : Option Bool) → m ≡ option_map boolean o → (o ≢ Some false) ↔ (m ≢ Some (boolean false))
-is_not_false m None e = ((λ h f. let bad = sym e ∙ f in cc), (λ h f. cc))
-is_not_false m (Some b) e = ((λ h f. h (let same = sym e ∙ f in cc)), (λ h f. h (e ∙ ap (option_map boolean) f)))
+-- the same of what is told by a test
+told_so : (told test : Bool) (P : Type 0) → told ≡ test → (test ≡ true) ↔ P → (told ≡ true) ↔ P
+told_so told test P same h = ((λ e. h.0 (sym same ∙ e)), (λ p. same ∙ h.1 p))
 
-both : {P Q R : Type 0} → P ↔ Q → Q ↔ R → P ↔ R
-both h k = ((λ p. k.0 (h.0 p)), (λ r. h.1 (k.1 r)))
+module _ (events : List Data) (places : List ℕ) where
+  -- an atom has the mark that its event has, by whichever test
+  marked_as : (test : Data → Bool) (a x : ℕ) (event : Data) → slice_get places a ≡ Some x → slice_get events x ≡ Some event
+      → has (those (length places) (λ b. test (event_at events (get_or places b 0)))) a ≡ test event
+  marked_as test a x event at here =
+      has-those (length places) (λ b. test (event_at events (get_or places b 0))) a (slice_get_within places a x at)
+      ∙ ap (λ p. test (event_at events p)) (get_or_from_slice_get places a x 0 at)
+      ∙ ap test (get_or_from_slice_get events x event null here)
 
-opens_as : (objects : List Data) (events : List Event) (atoms : List ℕ) (opening : Marking) → AreBeside IsEventObject objects events → IsOpening events atoms opening → OpensAs objects atoms opening
-opens_as objects events atoms opening beside is = record {
-  room = is.room;
-  executed = λ a x object at here. let event = beside_at IsEventObject objects events beside x object here in both (is.executed a x event.0 at event.1) (is_true (get (codes "executed") object) event.0.executed event.2.executed);
-  pending = λ a x object at here. let event = beside_at IsEventObject objects events beside x object here in both (is.pending a x event.0 at event.1) (is_true (get (codes "pending") object) event.0.pending event.2.pending);
-  included = λ a x object at here. let event = beside_at IsEventObject objects events beside x object here in both (is.included a x event.0 at event.1) (is_not_false (get (codes "included") object) event.0.included event.2.included);
-}
+  opens_with : OpensAs events places (opening_with places events)
+  opens_with = record {
+    room = room_with places events;
+    executed = λ a x event at here. told_so _ _ _ (marked_as (λ e. unwrap_or (mark_at (codes "executed") e) false) a x event at here) (is_true (get (codes "executed") event));
+    pending = λ a x event at here. told_so _ _ _ (marked_as (λ e. unwrap_or (mark_at (codes "pending") e) false) a x event at here) (is_true (get (codes "pending") event));
+    included = λ a x event at here. told_so _ _ _ (marked_as (λ e. unwrap_or (mark_at (codes "included") e) true) a x event at here) (is_not_false (get (codes "included") event));
+  }
+
+opens_in : (g : Graph) → OpensAs g.events (atoms (parents_of (nest_in g).nodes)) (opening_in g)
+unfolding nest_in opening_in
+opens_in g = opens_with g.events (atoms (parents_of (nest_in g).nodes))
+
+as_many_in : (g : Graph) → length g.events ≡ length (nest_in g).nodes
+unfolding nest_in
+as_many_in g = sym (length-map g.events (node_in (names_in g.events)))
+
+written_so : (d : Data) → OpensAsWritten d (spelled_in (written_in d))
+unfolding spelled_in
+written_so d = record { as_many = as_many_in (written_in d).graph; opens = opens_in (written_in d).graph }
 
 pub opening_law : OpeningIsWritten
 opening_law bytes d case json e =
     let spells = (cases_law bytes case).0 e in
-    let file = spells.file.before.before in
-    let writes = file.written in
-    let same : writes.value ≡ d = same_Some _ _ (sym writes.spelled.json ∙ json.json) in
-    let events = writes.contains.events in
-    let Q : Nest → Type 0 = λ N. length (graph_elements (codes "events") writes.value) ≡ length N.nodes in
-    let O : Nest → Type 0 = λ N. OpensAs (graph_elements (codes "events") writes.value) (atoms (parents_of N.nodes)) case.opening in
-    let many = length-beside IsEventObject _ spells.written.events events ∙ length-beside (IsNodeOf spells.written.events) _ _ file.are.events in
-    let opens = opens_as _ spells.written.events (atoms (parents_of spells.nodes.nested.nodes)) case.opening events (subst (IsOpening spells.written.events (atoms (parents_of spells.nodes.nested.nodes))) (sym spells.opening) file.are.opening) in
-    subst (λ (v : Data). OpensAsWritten v case) same (record { as_many = subst Q (sym spells.nested) many; opens = subst O (sym spells.nested) opens })
+    let same : spells.value ≡ d = same_Some _ _ (sym spells.json.json ∙ json.json) in
+    subst (λ (v : Data). OpensAsWritten v case) same (subst (OpensAsWritten spells.value) (sym spells.is) (written_so spells.value))

@@ -4,8 +4,9 @@ use Rattle.std.specs.List.{All}
 use Rattle.dcr_graph.specs.Projection.{HasRoom}
 use Rattle.dcr_nest.specs.FlatRelation.{IsFlattening}
 use Rattle.dcr_journal.specs.Run.{IsInRange}
-use Rattle.dcr_reading.specs.Accepted.{IsAcceptedGraph, IsAcceptedCover}
-use Rattle.dcr_json.specs.Judged.{Spelled}
+use Rattle.dcr_cover_json.specs.Accepted.{IsAcceptedCover}
+use Rattle.dcr_graph_json.specs.Accepted.{IsAcceptedGraph}
+use Rattle.dcr_json.specs.Written.{Spelled}
 use Rattle.dcr_json.specs.declared.case.Case.{Case}
 
 -- the case with its fields read as lists

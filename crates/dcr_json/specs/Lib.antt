@@ -1,7 +1,10 @@
+pub mod Written
+pub mod Seen
+pub mod Facts
 pub mod Refusing
-pub mod Judged
 pub mod Case
 pub mod Built
 pub mod Refusals
 pub mod Opens
 pub mod CaseText
+pub mod Spelling

@@ -8,10 +8,9 @@ use Rattle.dcr_graph.specs.Projection.{HasRoom}
 use Rattle.dcr_graph.specs.declared.marking.Marking.{Marking}
 use Rattle.dcr_nest.specs.Nest.{parents_of}
 use Rattle.dcr_nest.specs.Tree.{atoms}
-use Rattle.dcr_shape.specs.Words.{graph_elements}
 use Rattle.dcr_json.specs.Case.{case_in}
-use Rattle.dcr_json.specs.Judged.{Spelled}
 use Rattle.dcr_json.specs.Refusals.{SpellsJson}
+use Rattle.dcr_json.specs.Written.{Spelled, written_in}
 
 -- Where these are the objects of the events, and the numbers of those that are atoms: atom a is executed and pending where
 -- its object's member of that name is true, and included unless it is false.
@@ -23,8 +22,8 @@ pub record OpensAs (events : List Data) (atoms : List ℕ) (opening : Marking) :
 
 -- the objects of a file's events are as many as the nodes, and the case opens as they say
 pub record OpensAsWritten (d : Data) (case : Spelled) : Type 0 where
-  pub as_many : length (graph_elements (codes "events") d) ≡ length case.nested.nodes
-  pub opens : OpensAs (graph_elements (codes "events") d) (atoms (parents_of case.nested.nodes)) case.opening
+  pub as_many : length (written_in d).graph.events ≡ length case.nested.nodes
+  pub opens : OpensAs (written_in d).graph.events (atoms (parents_of case.nested.nodes)) case.opening
 
 abbrev pub OpeningIsWritten : Type 0
 OpeningIsWritten = (bytes : List ℕ) (d : Data) (case : Spelled) → SpellsJson bytes d → case_in bytes ≡ Ok case → OpensAsWritten d case

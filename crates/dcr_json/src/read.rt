@@ -1,17 +1,16 @@
-ghost use Rattle.std.specs.Prelude.{◌≡◌, ◌<◌, ◌≤◌, length, Err, IfOk, IfErr};
+ghost use Rattle.std.specs.Prelude.{◌≡◌, ◌<◌, ◌≤◌, length, Some, Err, IfOk};
 ghost use Rattle.serde_json.specs.View.{view};
-ghost use Rattle.dcr_size.specs.Size.{size};
-ghost use Rattle.dcr_shape.specs.Case.{shape_in};
+ghost use Rattle.dcr_format.specs.Size.{size};
+ghost use Rattle.dcr_format.specs.Facts.{Judges, first};
 ghost use Rattle.dcr_json.specs.Built.{case_of, IsCase};
 ghost use Rattle.dcr_json.specs.Case.{case_in, file_in, value_in};
-ghost use Rattle.dcr_json.specs.Refusing.{Says, stop_of};
+ghost use Rattle.dcr_json.specs.Facts.{case_facts, shape_facts};
+ghost use Rattle.dcr_json.specs.Refusing.{Says};
+ghost use Rattle.dcr_json.specs.Written.{spelled_in, written_in};
 
-use crate::judge::judge;
-use crate::{Case, CaseStop};
-use dcr_limit::try_limits;
-use dcr_reading::read_json;
-use dcr_shape::read_shape;
-use dcr_written::read_nodes;
+use crate::Case;
+use crate::file::FileText;
+use dcr_format::{CaseStop, read_json};
 use serde_json::Value;
 use std::alloc::Global;
 
@@ -48,18 +47,19 @@ pub fn read_file(alloc: Global, bytes: &[u8]) -> Result<Value, CaseStop>
     Ok(value)
 }
 
-/// The case that the JSON value of a file spells, or the first refusal that holds of it, as the definition says it, both
-/// ways. Its shape is tried without memory; `NoMemory` may come in the place of any other answer.
-#[tactic(auto, unfolding(crate::specs::Case::value_in))]
+/// The case that the JSON value of a file spells, or the first refusal of the facts of a case file: the shape of each
+/// member, then the limits of each, and then what it is built of. Its shape is tried without memory; `NoMemory` may come
+/// in the place of any other answer.
 pub fn read_value(alloc: Global, value: &Value) -> Result<Case, CaseStop>
     requires { size (view value.now) ≤ 16777216 }
+    ensures facts { Judges (first (case_facts (view value.now))) result }
+    ensures case { IfOk result (λ case. case_of case ≡ spelled_in (written_in (view value.now))) }
     ensures says { Says case_of result (value_in (view value.now)) }
     ensures fits { IfOk result IsCase }
-    ensures misshapen { IfErr (shape_in (view value.now)) (λ why. result ≡ Err (stop_of why)) }
+    ensures misshapen { (stop : CaseStop) → first (shape_facts (view value.now)) ≡ Some stop → result ≡ Err stop }
 {
-    let written = read_shape(value)?;
-    try_limits(alloc, &written)?;
-    let nodes = read_nodes(alloc, &written)?;
-    let case = judge(alloc, &written, nodes)?;
+    let file = FileText::shape(value)?;
+    file.limits(alloc)?;
+    let case = file.build(alloc)?;
     Ok(case)
 }

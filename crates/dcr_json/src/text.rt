@@ -1,16 +1,14 @@
 ghost use Rattle.std.specs.Prelude.{◌≡◌, ◌≤◌, length, sum_by, IfOk, Ok};
 ghost use Rattle.serde_json.specs.View.{view};
-ghost use Rattle.dcr_nest.specs.declared.node.Version.{Version};
-ghost use Rattle.dcr_reading.specs.File.{version_text};
 ghost use Rattle.dcr_json.specs.Built.{case_of, IsCase};
 ghost use Rattle.dcr_json.specs.Case.{case_in};
 ghost use Rattle.dcr_json.specs.CaseText.{case_text, case_value};
 
 use crate::Case;
-use crate::opened::opened_value;
-use crate::session_texts::session_values;
-use dcr_canon::cover_value;
-use dcr_nest::Version;
+use crate::version::version_text;
+use dcr_cover_json::cover_value;
+use dcr_graph_json::graph_value;
+use dcr_session_json::sessions_value;
 use dcr_set::NoMemory;
 use serde_json::{Map, Value};
 use std::alloc::Global;
@@ -35,23 +33,13 @@ fn case_value(alloc: Global, case: &Case) -> Result<Value, NoMemory>
     ensures { IfOk result (λ value. view value ≡ case_value (case_of case.now)) }
 {
     let cover = cover_value(alloc, &case.graph, &case.cover)?;
-    let graph = opened_value(alloc, &case.nested, &case.opening)?;
-    let sessions = session_values(alloc, &case.graph, &case.cover, case.sessions.all())?;
+    let graph = graph_value(alloc, &case.nested, Some(&case.opening))?;
+    let sessions = sessions_value(alloc, &case.graph, &case.cover, case.sessions.all())?;
     let version = Value::try_from_str(alloc, version_text(case.nested.version()))?;
     let mut members = Map::new(alloc);
     serde_json::put(&mut members, alloc, "cover", cover)?;
     serde_json::put(&mut members, alloc, "graph", graph)?;
-    serde_json::put(&mut members, alloc, "sessions", Value::Array(sessions))?;
+    serde_json::put(&mut members, alloc, "sessions", sessions)?;
     serde_json::put(&mut members, alloc, "version", version)?;
     Ok(Value::Object(members))
-}
-
-// The text of a version.
-fn version_text(version: Version) -> &'static str
-    ensures { result.now ≡ version_text version }
-{
-    match version {
-        Version::V1 => "1",
-        Version::V2 => "2",
-    }
 }

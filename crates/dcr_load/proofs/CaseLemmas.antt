@@ -6,7 +6,7 @@ use Rattle.dcr_nest.specs.Nest.{Nest}
 use Rattle.dcr_proj.specs.CoverValue.{Owners}
 use Rattle.dcr_journal.specs.Run.{IsInRange}
 use Rattle.dcr_journal.specs.declared.call.Call.{Call}
-use Rattle.dcr_json.specs.Judged.{Spelled}
+use Rattle.dcr_json.specs.Written.{Spelled}
 use Rattle.dcr_load.specs.LoadGraph.{load_nest}
 use Rattle.dcr_load.specs.LoadCover.{load_cover, load_opening}
 use Rattle.dcr_load.specs.LoadSessions.{load_sessions}

@@ -4,8 +4,9 @@ ghost use Rattle.dcr_json.specs.Case.{case_in};
 ghost use Rattle.dcr_load.specs.Load.{load};
 
 use crate::{cover, graph, sessions};
+use dcr_cover_json::see_cover;
+use dcr_graph_json::see_graph;
 use dcr_json::{Case, SessionList, case_text};
-use dcr_reading::{see_cover, see_graph};
 use dcr_set::NoMemory;
 use std::alloc::Global;
 

@@ -13,8 +13,8 @@ use Rattle.serde_json.specs.Read.{of_members}
 use Rattle.serde_json.specs.View.{items_of}
 use Rattle.serde_json.specs.Written.{compact_text, comma_if, items_text, members_text, members_outline, has_float, items_have_float, members_have_float}
 use Rattle.serde_json.proofs.Numbers.{number_of-decimal}
-use Rattle.dcr_size.specs.Laws.{json_in}
-use Rattle.dcr_canon.proofs.PlainLemmas.{IsPlain, ArePlain, plain_string, no_plain_item, plain_item, plain_array, json_written}
+use Rattle.dcr_format.specs.SizeLaws.{json_in}
+use Rattle.dcr_format.proofs.PlainLemmas.{IsPlain, ArePlain, plain_string, no_plain_item, plain_item, plain_array, json_written}
 use Rattle.dcr_part.specs.PartText.{number_value}
 
 -- ---- no floats

@@ -12,7 +12,7 @@ use Rattle.dcr_graph.specs.Rules.{Rules}
 use Rattle.dcr_graph.specs.declared.kind.Kind.{Kind}
 use Rattle.dcr_graph.specs.declared.kind.Kind.TheVariants.{Condition, Response, Milestone, Include, Exclude, Cancel}
 use Rattle.dcr_graph.specs.Names.{is_name}
-use Rattle.dcr_shape.specs.Members.{text_at}
+use Rattle.dcr_format.specs.Members.{text_at}
 use Rattle.dcr_part.specs.Told.{Told}
 use Rattle.dcr_part.specs.PartText.{number_value, alphabet_value, rows_value, relations_value, opening_value, part_value}
 use Rattle.dcr_part.specs.declared.head.PartHead.{PartHead}

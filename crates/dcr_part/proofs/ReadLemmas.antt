@@ -5,8 +5,8 @@ use Rattle.std.proofs.lemmas.Option.{none-some, same_Some}
 use Rattle.serde_json.specs.Data.{Data, array}
 use Rattle.serde_json.specs.View.{items_of, view}
 use Rattle.serde_json.specs.declared.value.Value.{Value}
-use Rattle.dcr_shape.specs.Members.{elements}
-use Rattle.dcr_shape.proofs.ValueLemmas.{listed-items_of}
+use Rattle.dcr_format.specs.Members.{elements}
+use Rattle.dcr_format.proofs.MemberLemmas.{listed-items_of}
 
 -- the elements of an array of these
 pub elements_are : (ds : List Data) (d : Data) (found : List Data) → Some found ≡ elements d → d ≡ array (items_of ds) → found ≡ ds

@@ -27,8 +27,8 @@ use Rattle.dcr_graph.specs.declared.kind.Kind.{Kind}
 use Rattle.dcr_graph.specs.declared.kind.Kind.TheVariants.{Condition, Response, Milestone, Include, Exclude, Cancel}
 use Rattle.dcr_graph.specs.declared.marking.SiteMark.{SiteMark}
 use Rattle.dcr_graph.proofs.BoolLemmas.{and_comm}
-use Rattle.dcr_size.specs.Laws.{json_in}
-use Rattle.dcr_reading.proofs.TextLemmas.{names_utf8}
+use Rattle.dcr_format.specs.SizeLaws.{json_in}
+use Rattle.dcr_format.proofs.NameLemmas.{names_utf8}
 use Rattle.dcr_part.specs.Told.{Told}
 use Rattle.dcr_part.specs.PartText.{number_value, set_value, event_value, alphabet_value, sources, targets, row_value, rows_value, relations_value, opening_value, part_value, told_text}
 use Rattle.dcr_part.specs.Read.{IsTold}

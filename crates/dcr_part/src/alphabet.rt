@@ -10,9 +10,9 @@ ghost use Rattle.dcr_part.specs.Read.{IsFound, IsTold};
 ghost use Rattle.dcr_part.specs.Told.{Told};
 
 use crate::numbers::read_number;
+use dcr_format::{elements, member};
 use dcr_graph::{Name, NameStop};
 use dcr_set::{EventId, EventSet, NoMemory};
-use dcr_shape::{elements, member};
 use serde_json::Value;
 use std::alloc::Global;
 

@@ -10,9 +10,9 @@ ghost use Rattle.dcr_part.specs.PartText.{number_value, set_value, opening_value
 ghost use Rattle.dcr_part.specs.Read.{IsTold};
 ghost use Rattle.dcr_part.specs.Told.{Told};
 
+use dcr_format::{elements, member};
 use dcr_graph::Marking;
 use dcr_set::{EventId, EventSet};
-use dcr_shape::{elements, member};
 use serde_json::Value;
 
 /// A number below this one.

@@ -5,7 +5,6 @@ ghost use Rattle.serde_json.specs.Data.{array, no_items, item};
 ghost use Rattle.serde_json.specs.View.{view};
 ghost use Rattle.dcr_set.specs.EventSet.{has, numbers};
 ghost use Rattle.dcr_set.specs.declared.id.TheConstants.{MAX_ATOMS};
-ghost use Rattle.dcr_graph.specs.KindText.{kind_text};
 ghost use Rattle.dcr_graph.specs.Rows.{leads};
 ghost use Rattle.dcr_graph.specs.Rules.{kind_number, Rules};
 ghost use Rattle.dcr_part.specs.PartText.{number_value, set_value, sources, row_value, rows_value, relations_value, part_value};
@@ -13,9 +12,10 @@ ghost use Rattle.dcr_part.specs.Read.{AreTablesOf, IsFound, IsTableOf};
 ghost use Rattle.dcr_part.specs.Told.{Told};
 
 use crate::numbers::{read_number, read_set};
+use dcr_format::{elements, member};
 use dcr_graph::{Kind, Table};
+use dcr_graph_json::kind_word;
 use dcr_set::{EventId, EventSet, NoMemory};
-use dcr_shape::{elements, member};
 use serde_json::Value;
 use std::alloc::Global;
 
@@ -70,20 +70,6 @@ fn kind_of(number: u16) -> Kind
     }
 }
 
-// The word of a kind.
-fn word(kind: Kind) -> &'static str
-    ensures { result.now ≡ kind_text kind }
-{
-    match kind {
-        Kind::Condition => "condition",
-        Kind::Response => "response",
-        Kind::Milestone => "milestone",
-        Kind::Include => "include",
-        Kind::Exclude => "exclude",
-        Kind::Cancel => "cancel",
-    }
-}
-
 // The table of one kind.
 fn member_table(
     alloc: Global,
@@ -96,7 +82,7 @@ fn member_table(
     ensures read { (R : Rules) → R.atoms ≡ atoms → view value.now ≡ relations_value R
         → IfOk result (λ found. IsFound found (IsTableOf R.atoms (R.related kind))) }
 {
-    let Some(rows) = member(value, word(kind)) else {
+    let Some(rows) = member(value, kind_word(kind)) else {
         return Ok(None);
     };
     read_table(alloc, rows, atoms)

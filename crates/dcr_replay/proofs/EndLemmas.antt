@@ -16,8 +16,8 @@ use Rattle.dcr_graph.specs.declared.marking.Marking.{Marking}
 use Rattle.dcr_proj.specs.CoverValue.{Owners}
 use Rattle.dcr_journal.specs.Run.{marks_at}
 use Rattle.dcr_journal.specs.declared.call.Entry.{Entry}
-use Rattle.dcr_canon.specs.Laws.{HaveNoLineEnd}
-use Rattle.dcr_reading.specs.Laws.{MeanOne}
+use Rattle.dcr_replay.specs.Canonical.{HaveNoLineEnd}
+use Rattle.dcr_replay.specs.Canonical.{MeanOne}
 use Rattle.dcr_report.specs.Report.{end_lines, site_lines, site_text}
 use Rattle.dcr_text.specs.Lines.{Line, line_of, lines_of, says}
 use Rattle.dcr_replay.specs.EntryLines.{Setting, first_is_digit, last_of, names_in, rules_in}

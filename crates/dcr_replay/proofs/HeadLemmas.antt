@@ -19,9 +19,11 @@ use Rattle.dcr_line.specs.Line.{mark_text}
 use Rattle.dcr_line.specs.MarkLine.{mark_in}
 use Rattle.dcr_line.proofs.CallLemmas.{chosen, is_word}
 use Rattle.dcr_line.proofs.MarkLemmas.{mark_text_read, mark_told}
-use Rattle.dcr_canon.specs.CoverText.{cover_text}
-use Rattle.dcr_canon.specs.GraphText.{graph_text}
-use Rattle.dcr_reading.specs.Accepted.{IsAcceptedCover, IsAcceptedGraph, IsCoverIn, IsGraphIn, atom_names}
+use Rattle.dcr_cover_json.specs.Text.{cover_text}
+use Rattle.dcr_graph_json.specs.Text.{graph_text}
+use Rattle.dcr_cover_json.specs.Accepted.{IsAcceptedCover, IsCoverIn}
+use Rattle.dcr_graph_json.specs.Accepted.{IsAcceptedGraph, IsGraphIn}
+use Rattle.dcr_graph_json.specs.Build.{atom_names}
 use Rattle.dcr_report.specs.Report.{version_text}
 use Rattle.dcr_text.specs.Lines.{Line, line_of, whole}
 use Rattle.dcr_replay.specs.HeadLines.{IsCoverAt, IsGraphAt, behind, first_text, first_behind, version_of, version_at, opening_at}

@@ -11,3 +11,4 @@ pub mod WrongLemmas
 pub mod EndLemmas
 pub mod AnsweredLemmas
 mod OneLemmas
+mod VerdictLemmas

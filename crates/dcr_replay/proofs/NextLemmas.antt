@@ -28,10 +28,12 @@ use Rattle.dcr_line.specs.Fits.{FitsEntry}
 use Rattle.dcr_line.specs.Known.{AreNames}
 use Rattle.dcr_line.specs.Line.{call_words, outcome_words, spaced}
 use Rattle.dcr_line.proofs.EntryLemmas.{entry_texts}
-use Rattle.dcr_canon.specs.CoverText.{cover_text}
-use Rattle.dcr_canon.specs.GraphText.{graph_text}
-use Rattle.dcr_reading.specs.Accepted.{IsAcceptedCover, IsAcceptedGraph, atom_names}
-use Rattle.dcr_reading.specs.Laws.{MeanOne}
+use Rattle.dcr_cover_json.specs.Text.{cover_text}
+use Rattle.dcr_graph_json.specs.Text.{graph_text}
+use Rattle.dcr_cover_json.specs.Accepted.{IsAcceptedCover}
+use Rattle.dcr_graph_json.specs.Accepted.{IsAcceptedGraph}
+use Rattle.dcr_graph_json.specs.Build.{atom_names}
+use Rattle.dcr_replay.specs.Canonical.{MeanOne}
 use Rattle.dcr_report.specs.Report.{end_lines, entry_lines, site_lines, version_text}
 use Rattle.dcr_report.proofs.LegalLemmas.{legal_entry}
 use Rattle.dcr_text.specs.Lines.{Line, line_of}

@@ -10,9 +10,9 @@ use Rattle.dcr_journal.specs.Run.{HasNoFault, made_by}
 use Rattle.dcr_journal.specs.declared.call.Entry.{Entry}
 use Rattle.dcr_line.specs.Fits.{FitsEntry}
 use Rattle.dcr_line.specs.Line.{entry_text}
-use Rattle.dcr_canon.specs.Laws.{HaveNoLineEnd}
-use Rattle.dcr_reading.specs.Accepted.{atom_names}
-use Rattle.dcr_reading.specs.Laws.{MeanOne}
+use Rattle.dcr_replay.specs.Canonical.{HaveNoLineEnd}
+use Rattle.dcr_graph_json.specs.Build.{atom_names}
+use Rattle.dcr_replay.specs.Canonical.{MeanOne}
 use Rattle.dcr_text.specs.Lines.{Line, line_of}
 use Rattle.dcr_replay.specs.EntryLines.{IsNext, IsWrongNext, Setting, begins_with_digit, first_is_digit, names_in}
 use Rattle.dcr_replay.specs.FirstWrong.{IsExpected, IsFirstWrong, IsReadTo, IsWrongBehind, behind_head, end_kinds, in_head, of_end, of_entry}

@@ -17,8 +17,8 @@ use Rattle.dcr_line.specs.Line.{spaced, name_of, names_text, list_text, mark_wor
 use Rattle.dcr_line.proofs.NameLemmas.{name_lacks}
 use Rattle.dcr_line.proofs.NumberLemmas.{decimal_lacks}
 use Rattle.dcr_line.proofs.PiecesLemmas.{lacks}
-use Rattle.dcr_canon.specs.Laws.{IsOneLine}
-use Rattle.dcr_reading.specs.Accepted.{AreAllNames}
+use Rattle.dcr_format.specs.Texts.{IsOneLine}
+use Rattle.dcr_format.specs.Texts.{AreAllNames}
 use Rattle.dcr_report.specs.Report.{entry_lines, site_text, site_lines, verdict_text, end_lines}
 
 -- what the laws of canonical texts say, as a test

@@ -12,9 +12,9 @@ use Rattle.dcr_journal.specs.Run.{marks_at}
 use Rattle.dcr_journal.specs.declared.call.Entry.{Entry}
 use Rattle.dcr_line.specs.Line.{mark_text}
 use Rattle.dcr_line.proofs.PiecesLemmas.{lacks}
-use Rattle.dcr_canon.specs.CoverText.{cover_text}
-use Rattle.dcr_canon.specs.GraphText.{graph_text}
-use Rattle.dcr_canon.specs.Laws.{HaveNoLineEnd}
+use Rattle.dcr_cover_json.specs.Text.{cover_text}
+use Rattle.dcr_graph_json.specs.Text.{graph_text}
+use Rattle.dcr_replay.specs.Canonical.{HaveNoLineEnd}
 use Rattle.dcr_report.specs.Report.{end_lines, entry_lines, report_text, site_lines, version_text}
 use Rattle.dcr_text.specs.Lines.{Line, lines_of}
 use Rattle.dcr_replay.specs.EntryLines.{IsRun, Setting, last_of, names_in, rules_in}

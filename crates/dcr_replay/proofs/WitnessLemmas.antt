@@ -16,7 +16,8 @@ use Rattle.dcr_nest.specs.Nest.{Nest, nest, parents_of}
 use Rattle.dcr_nest.specs.Tree.{atoms}
 use Rattle.dcr_nest.specs.declared.node.Version.{Version}
 use Rattle.dcr_proj.specs.CoverValue.{Owners, owners}
-use Rattle.dcr_reading.specs.Accepted.{IsAcceptedCover, IsAcceptedGraph}
+use Rattle.dcr_cover_json.specs.Accepted.{IsAcceptedCover}
+use Rattle.dcr_graph_json.specs.Accepted.{IsAcceptedGraph}
 
 -- the graph without a node
 abbrev pub empty_graph : Version → Nest

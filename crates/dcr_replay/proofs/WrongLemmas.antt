@@ -14,11 +14,13 @@ use Rattle.dcr_proj.specs.CoverValue.{Owners}
 use Rattle.dcr_journal.specs.declared.call.Entry.{Entry}
 use Rattle.dcr_journal.proofs.SoundLemmas.{sound_none}
 use Rattle.dcr_line.specs.Line.{entry_text}
-use Rattle.dcr_canon.specs.CoverText.{cover_text}
-use Rattle.dcr_canon.specs.GraphText.{graph_text}
-use Rattle.dcr_canon.specs.Laws.{HaveNoLineEnd}
-use Rattle.dcr_reading.specs.Accepted.{IsAcceptedCover, IsAcceptedGraph, IsCoverIn, IsGraphIn, atom_names}
-use Rattle.dcr_reading.specs.Laws.{MeanOne}
+use Rattle.dcr_cover_json.specs.Text.{cover_text}
+use Rattle.dcr_graph_json.specs.Text.{graph_text}
+use Rattle.dcr_replay.specs.Canonical.{HaveNoLineEnd}
+use Rattle.dcr_cover_json.specs.Accepted.{IsAcceptedCover, IsCoverIn}
+use Rattle.dcr_graph_json.specs.Accepted.{IsAcceptedGraph, IsGraphIn}
+use Rattle.dcr_graph_json.specs.Build.{atom_names}
+use Rattle.dcr_replay.specs.Canonical.{MeanOne}
 use Rattle.dcr_report.specs.Report.{entry_lines, version_text}
 use Rattle.dcr_text.specs.Lines.{Line, line_of, lines_of}
 use Rattle.dcr_replay.specs.EntryLines.{IsAnswered, IsRun, IsWrongNext, MayCome, Setting, begins_with_digit, first_is_digit, names_in, rules_in, text_next}

@@ -17,7 +17,9 @@ use Rattle.dcr_journal.specs.declared.call.Outcome.{Outcome}
 use Rattle.dcr_journal.specs.declared.call.Outcome.TheVariants.{Done, Faulted}
 use Rattle.dcr_line.specs.Fits.{FitsEntry}
 use Rattle.dcr_line.specs.Line.{entry_text}
-use Rattle.dcr_reading.specs.Accepted.{IsAcceptedCover, IsAcceptedGraph, atom_names}
+use Rattle.dcr_cover_json.specs.Accepted.{IsAcceptedCover}
+use Rattle.dcr_graph_json.specs.Accepted.{IsAcceptedGraph}
+use Rattle.dcr_graph_json.specs.Build.{atom_names}
 use Rattle.dcr_text.specs.Lines.{Line, line_of}
 use Rattle.dcr_replay.specs.declared.verdict.Wrong.{Wrong}
 use Rattle.dcr_replay.specs.declared.verdict.Wrong.TheVariants as wrong

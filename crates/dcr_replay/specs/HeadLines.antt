@@ -10,10 +10,12 @@ use Rattle.dcr_nest.specs.declared.node.Version.TheVariants.{V1, V2}
 use Rattle.dcr_proj.specs.CoverValue.{Owners}
 use Rattle.dcr_line.specs.MarkLine.{mark_in}
 use Rattle.dcr_report.specs.Report.{version_text}
-use Rattle.dcr_canon.specs.CoverText.{cover_text}
-use Rattle.dcr_canon.specs.GraphText.{graph_text}
-use Rattle.dcr_reading.specs.Accepted.{IsGraphIn, IsCoverIn, atom_names}
-use Rattle.dcr_reading.specs.declared.value.TheConstants.{MAX_BYTES}
+use Rattle.dcr_cover_json.specs.Text.{cover_text}
+use Rattle.dcr_graph_json.specs.Text.{graph_text}
+use Rattle.dcr_graph_json.specs.Accepted.{IsGraphIn}
+use Rattle.dcr_cover_json.specs.Accepted.{IsCoverIn}
+use Rattle.dcr_graph_json.specs.Build.{atom_names}
+use Rattle.dcr_format.specs.declared.json_value.TheConstants.{MAX_BYTES}
 use Rattle.dcr_text.specs.Lines.{Line, whole}
 
 -- what is behind a word that the text begins with

@@ -1,4 +1,5 @@
 pub mod LinesModel
+pub mod Canonical
 pub mod HeadLines
 pub mod EntryLines
 pub mod ReportLines
@@ -9,3 +10,4 @@ pub mod LeastWrong
 pub mod Tracks
 pub mod Stands
 pub mod Words
+pub mod Verdicts

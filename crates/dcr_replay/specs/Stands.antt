@@ -9,9 +9,10 @@ use Rattle.dcr_proj.specs.CoverValue.{IsCover, Owners}
 use Rattle.dcr_journal.specs.Run.{HasNoFault, made_by, marks_at}
 use Rattle.dcr_journal.specs.declared.call.Entry.{Entry}
 use Rattle.dcr_line.specs.DirectoryModel.{named}
-use Rattle.dcr_canon.specs.Laws.{HaveNoLineEnd}
-use Rattle.dcr_reading.specs.Accepted.{IsAcceptedCover, IsAcceptedGraph}
-use Rattle.dcr_reading.specs.Laws.{MeanOne}
+use Rattle.dcr_replay.specs.Canonical.{HaveNoLineEnd}
+use Rattle.dcr_cover_json.specs.Accepted.{IsAcceptedCover}
+use Rattle.dcr_graph_json.specs.Accepted.{IsAcceptedGraph}
+use Rattle.dcr_replay.specs.Canonical.{MeanOne}
 use Rattle.dcr_report.specs.Report.{end_lines, site_lines}
 use Rattle.dcr_text.specs.Lines.{Line, lines_of}
 use Rattle.dcr_replay.specs.EntryLines.{IsAnswered, IsNext, IsRun, IsWrongNext, Setting, last_of, names_in, rules_in}

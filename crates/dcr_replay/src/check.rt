@@ -1,11 +1,10 @@
 ghost use Rattle.std.specs.Prelude.{◌≡◌, [], ◌∷◌, codes, drop, length, IfOk, None, Some, Ok};
 ghost use Rattle.std.specs.List.{All};
-ghost use Rattle.dcr_graph.specs.Pairs.{first_clash};
 ghost use Rattle.dcr_graph.specs.Projection.{HasRoom};
-ghost use Rattle.dcr_nest.specs.FlatRelation.{IsFlattening, flat_relation};
+ghost use Rattle.dcr_nest.specs.FlatRelation.{IsFlattening};
 ghost use Rattle.dcr_nest.specs.Nest.{Nest};
 ghost use Rattle.dcr_line.specs.DirectoryModel.{named};
-ghost use Rattle.dcr_reading.specs.Accepted.{IsAcceptedGraph};
+ghost use Rattle.dcr_graph_json.specs.Accepted.{IsAcceptedGraph};
 ghost use Rattle.dcr_report.specs.Report.{version_text};
 ghost use Rattle.dcr_text.specs.Lines.{lines_of};
 ghost use Rattle.dcr_replay.specs.HeadLines.{TellsNoText, case_head, graph_line, opening_at, version_at};
@@ -17,17 +16,16 @@ ghost use Rattle.dcr_replay.specs.ReportLines.{head_of};
 ghost use Rattle.dcr_replay.specs.Stands.{IsAcceptedCase, IsOver, TellsOf};
 ghost use Rattle.dcr_proj.specs.CoverValue.{IsCover};
 
+use crate::canonical::canonical_texts;
 use crate::ends::check_ends;
 use crate::entries::Run;
 use crate::head::{read_cover, read_graph, read_opening, read_version};
 use crate::lines::Lines;
 use crate::verdict::{Verdict, Wrong};
-use dcr_canon::canonical_texts_have_no_line_end;
-use dcr_graph::{Graph, GraphStop, Marking};
+use dcr_graph::{Graph, Marking};
 use dcr_line::Directory;
 use dcr_nest::{Nested, Version};
 use dcr_proj::Cover;
-use dcr_reading::accepted_texts_mean_one;
 use dcr_set::NoMemory;
 use std::alloc::Global;
 
@@ -41,8 +39,7 @@ pub fn check_report(alloc: Global, bytes: &[u8]) -> Result<Verdict, NoMemory>
     ensures no_text { (version : Version) → version_at (lines_of bytes.now) ≡ Some version
         → TellsNoText (codes "graph ") (drop 1 (lines_of bytes.now)) → result ≡ Ok (Invalid 2 wrong.Graph) }
 {
-    canonical_texts_have_no_line_end();
-    accepted_texts_mean_one();
+    canonical_texts();
     let mut lines = Lines::of(bytes);
     let Some(version) = read_version(&lines) else {
         return Ok(Verdict::Invalid {
@@ -59,27 +56,14 @@ fn check_graph(alloc: Global, version: Version, lines: &mut Lines<'_>) -> Result
     ensures verdict { IfOk result (TellsOf (version_text version ∷ []) lines.old) }
     ensures no_text { TellsNoText (codes "graph ") lines.old → result ≡ Ok (Invalid 2 wrong.Graph) }
 {
-    let Some(nested) = read_graph(alloc, lines, version)? else {
+    let Some(built) = read_graph(alloc, lines, version)? else {
         return Ok(Verdict::Invalid {
             line: 2,
             kind: Wrong::Graph,
         });
     };
     lines.pass();
-    let graph = flat(alloc, &nested)?;
-    check_cover(alloc, &nested, &graph, lines)
-}
-
-// The flattening of a nested graph without a clash.
-fn flat(alloc: Global, nested: &Nested) -> Result<Graph, NoMemory>
-    requires { first_clash (flat_relation nested.now) ≡ None }
-    ensures { IfOk result (λ graph. IsFlattening nested.now graph) }
-{
-    match nested.flatten(alloc) {
-        Ok(graph) => Ok(graph),
-        Err(GraphStop::NoMemory) => Err(NoMemory),
-        Err(GraphStop::Clash { .. }) => unreachable!(),
-    }
+    check_cover(alloc, &built.nested, &built.graph, lines)
 }
 
 // The verdict from the line of the cover on.

@@ -5,11 +5,12 @@ ghost use Rattle.dcr_nest.specs.FlatRelation.{IsFlattening};
 ghost use Rattle.dcr_replay.specs.HeadLines.{first_text, first_behind, version_at, IsGraphAt, IsCoverAt, TellsNoText, opening_at};
 
 use crate::lines::{Lines, behind};
+use dcr_cover_json::read_cover_text;
 use dcr_graph::{Graph, Marking};
+use dcr_graph_json::{Built, read_graph_text};
 use dcr_line::{Directory, read_mark};
 use dcr_nest::{Nested, Version};
 use dcr_proj::Cover;
-use dcr_reading::{read_cover_text, read_graph_text};
 use dcr_set::NoMemory;
 use std::alloc::Global;
 
@@ -27,14 +28,15 @@ pub(crate) fn read_version(lines: &Lines<'_>) -> Option<Version>
     None
 }
 
-/// The graph of this version that the first line tells. None exactly where it tells none that is accepted. A line that
+/// The graph of this version that the first line tells, with its flattening. None exactly where it tells none that is accepted. A line that
 /// tells no text, or a longer one than each canonical text, is refused without memory.
 pub(crate) fn read_graph(
     alloc: Global,
     lines: &Lines<'_>,
     version: Version,
-) -> Result<Option<Nested>, NoMemory>
-    ensures found { IfOk result (λ found. IsGraphAt version lines.now found) }
+) -> Result<Option<Built>, NoMemory>
+    ensures found { IfOk result (λ found. IsGraphAt version lines.now (option_map (λ built. built.nested) found)) }
+    ensures flat { IfOk result (λ found. IfSome found (λ built. IsFlattening built.nested built.graph)) }
     ensures no_text { TellsNoText (codes "graph ") lines.now → result ≡ Ok None }
 {
     let Some(text) = first_behind(lines, b"graph ") else {

@@ -3,6 +3,7 @@
 #![tactic(auto)]
 
 mod answer;
+mod canonical;
 mod check;
 mod ends;
 mod entries;
@@ -14,5 +15,5 @@ mod verdict;
 
 pub use check::check_report;
 pub use entries::is_done;
-pub use laws::a_text_has_one_verdict;
+pub use laws::{a_text_has_one_verdict, each_text_has_a_verdict};
 pub use verdict::{Verdict, Wrong};

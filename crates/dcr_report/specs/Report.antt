@@ -12,8 +12,8 @@ use Rattle.dcr_journal.specs.Run.{after, marks_at}
 use Rattle.dcr_journal.specs.declared.call.Entry.{Entry}
 use Rattle.dcr_journal.specs.declared.closed.Closed.{Closed}
 use Rattle.dcr_line.specs.Line.{mark_text, entry_text, name_of}
-use Rattle.dcr_canon.specs.GraphText.{graph_text}
-use Rattle.dcr_canon.specs.CoverText.{cover_text}
+use Rattle.dcr_graph_json.specs.Text.{graph_text}
+use Rattle.dcr_cover_json.specs.Text.{cover_text}
 
 -- a text with its line end
 abbrev pub line : List ℕ → List ℕ

@@ -6,8 +6,9 @@ ghost use Rattle.dcr_report.specs.Report.{head_lines, line, version_text};
 ghost use Rattle.dcr_report.specs.FitsClosed.{FitsCase};
 
 use crate::Lines;
-use dcr_canon::{cover_text, graph_text};
+use dcr_cover_json::cover_text;
 use dcr_graph::{Graph, Marking};
+use dcr_graph_json::graph_text;
 use dcr_line::write_marking;
 use dcr_nest::{Nested, Version};
 use dcr_proj::Cover;

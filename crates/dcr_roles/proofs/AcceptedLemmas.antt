@@ -1,17 +1,13 @@
 -- What bytes are accepted as, or their first refusal, both ways.
-use Rattle.std.proofs.Common.{◌≡◌, ℕ, ◌≤◌, inl, inr, true, cond, nat_le, List, length, Option, Some, None, Result, Ok, Err, refl, sym, ap, subst, ◌∙◌, arith}
-use Rattle.std.proofs.lemmas.Bool.Decides.{leb_tells}
+use Rattle.std.proofs.Common.{◌≡◌, ℕ, List, Result, Ok, Err, refl, sym, ap, subst, ◌∙◌}
 use Rattle.serde_json.specs.Data.{Data}
-use Rattle.dcr_size.specs.Laws.{json_in}
 use Rattle.dcr_policy.specs.Roles.{Roles}
-use Rattle.dcr_shape.specs.Stages.{next_stage}
+use Rattle.dcr_roles.specs.Stages.{next_stage}
 use Rattle.dcr_json.specs.Case.{case_in, file_in, value_in}
-use Rattle.dcr_json.specs.Judged.{Spelled}
+use Rattle.dcr_json.specs.Written.{Spelled}
 use Rattle.dcr_json.specs.Refusals.{SpellsJson}
-use Rattle.dcr_json.specs.Refusing.{found_or}
-use Rattle.dcr_json.specs.declared.case.CaseStop.{CaseStop}
-use Rattle.dcr_json.specs.declared.case.CaseStop.TheVariants.{TooLong, NotJson}
-use Rattle.dcr_json.proofs.RefusalLemmas.{cases_law, refusals_law}
+use Rattle.dcr_format.specs.declared.stop.CaseStop.{CaseStop}
+use Rattle.dcr_json.proofs.RefusalLemmas.{cases_law, file_given, file_refused, file_so, json_from, refusals_law}
 use Rattle.dcr_roles.specs.Accepted.{accepted_in, of_case, of_policy, SpelledBoth}
 use Rattle.dcr_roles.specs.Laws.{Comes, Spells, SpellsBoth, RefusalsAreTheFormats, AcceptedAreTheFormats, OneOfTheTwo}
 use Rattle.dcr_roles.specs.Read.{policy_in, IsSpelledBy}
@@ -36,38 +32,13 @@ accepted_so : (bytes : List ℕ) (r : Result Data CaseStop) → file_in bytes �
 unfolding accepted_in
 accepted_so bytes r e = ap (λ s. next_stage from_value (of_case s)) e
 
-case_so : (bytes : List ℕ) (r : Result Data CaseStop) → file_in bytes ≡ r → case_in bytes ≡ next_stage value_in r
-unfolding case_in
-case_so bytes r e = ap (next_stage value_in) e
-
-few : (bytes : List ℕ) → length bytes ≤ 16777216 → nat_le (length bytes) 16777216 ≡ true
-few bytes l = elim (leb_tells (length bytes) 16777216) [ inl h ↦ h.0 | inr h ↦ absurd (let more = h.1 in omega arith) ]
-
-file_so : (bytes : List ℕ) (d : Data) → SpellsJson bytes d → file_in bytes ≡ Ok d
-unfolding file_in
-file_so bytes d h =
-    ap (λ b. next_stage (λ text. found_or NotJson (json_in text)) (cond b (Ok bytes) (Err TooLong))) (few bytes h.short)
-    ∙ ap (found_or NotJson) h.json
-
--- the other way round
-json_from : (bytes : List ℕ) (d : Data) → file_in bytes ≡ Ok d → SpellsJson bytes d
-unfolding file_in
-json_from bytes d e = elim (leb_tells (length bytes) 16777216) [
-  | inl h ↦ record { short = h.1; json = found (json_in bytes) (sym (ap (λ b. next_stage (λ text. found_or NotJson (json_in text)) (cond b (Ok bytes) (Err TooLong))) h.0) ∙ e) }
-  | inr h ↦ absurd (let bad = sym (ap (λ b. next_stage (λ text. found_or NotJson (json_in text)) (cond b (Ok bytes) (Err TooLong))) h.0) ∙ e in cc)
-]
-  where
-    found : (o : Option Data) → found_or NotJson o ≡ Ok d → o ≡ Some d
-    found None is = absurd cc
-    found (Some other) is = let same : other ≡ d = cc in ap Some same
-
 -- a value that was read, and a case
 pub spelled_by : (bytes : List ℕ) (d : Data) (case : Spelled) → file_in bytes ≡ Ok d → value_in d ≡ Ok case → IsSpelledBy d case
-spelled_by bytes d case file is = record { bytes = bytes; json = json_from bytes d file; spells = case_so bytes (Ok d) file ∙ is }
+spelled_by bytes d case file is = record { bytes = bytes; json = json_from bytes d file; spells = file_given bytes d file ∙ is }
 
 -- bytes that spell a case are a value
 pub spelled_json : (bytes : List ℕ) (case : Spelled) → case_in bytes ≡ Ok case → (d : Data) × SpellsJson bytes d
-spelled_json bytes case e = let spells = (cases_law bytes case).0 e in let writes = spells.file.before.before.written in (writes.value, writes.spelled)
+spelled_json bytes case e = let spells = (cases_law bytes case).0 e in (spells.value, spells.json)
 
 -- a policy that is given allows every call
 pub given_allowed : (d : Data) (case : Spelled) (P : Roles) → policy_in d case ≡ Ok P → AreAllowed P case.sessions
@@ -81,15 +52,15 @@ refused_case bytes stop e = at (file_in bytes) refl
     at_value d r is same = ap (λ s. next_stage (from_policy d) (of_case s)) (is ∙ same)
 
     at : (r : Result Data CaseStop) → file_in bytes ≡ r → accepted_in bytes ≡ Err (Case stop)
-    at (Err other) is = let same : other ≡ stop = let whole = sym (case_so bytes (Err other) is) ∙ e in cc in accepted_so bytes (Err other) is ∙ ap (λ s. Err (Case s)) same
-    at (Ok d) is = accepted_so bytes (Ok d) is ∙ at_value d (value_in d) refl (sym (case_so bytes (Ok d) is) ∙ e)
+    at (Err other) is = let same : other ≡ stop = let whole = sym (file_refused bytes other is) ∙ e in cc in accepted_so bytes (Err other) is ∙ ap (λ s. Err (Case s)) same
+    at (Ok d) is = accepted_so bytes (Ok d) is ∙ at_value d (value_in d) refl (sym (file_given bytes d is) ∙ e)
 
 -- the case is spelled
 case_spelled : (bytes : List ℕ) (d : Data) (case : Spelled) → SpellsJson bytes d → case_in bytes ≡ Ok case → accepted_in bytes ≡ from_policy d case
 case_spelled bytes d case json e =
     let file = file_so bytes d json in
     accepted_so bytes (Ok d) file
-    ∙ ap (λ s. next_stage (from_policy d) (of_case s)) (sym (case_so bytes (Ok d) file) ∙ e)
+    ∙ ap (λ s. next_stage (from_policy d) (of_case s)) (sym (file_given bytes d file) ∙ e)
 
 policy_so : (d : Data) (case : Spelled) (r : Result Roles PolicyStop) → policy_in d case ≡ r → from_policy d case ≡ next_stage (λ policy. Ok (both case policy)) (of_policy r)
 policy_so d case r e = ap (λ s. next_stage (λ policy. Ok (both case policy)) (of_policy s)) e
@@ -122,8 +93,7 @@ ends bytes = at (case_in bytes) refl
     at (Err stop) e = is_refused (Case stop) ((refusals_law bytes stop).0 e)
     at (Ok case) e =
         let spells = (cases_law bytes case).0 e in
-        let writes = spells.file.before.before.written in
-        by_policy writes.value case (record { json = writes.spelled; spells = spells }) (verdict writes.value case)
+        by_policy spells.value case (record { json = spells.json; spells = spells }) (verdict spells.value case)
 
 -- ---- the laws
 

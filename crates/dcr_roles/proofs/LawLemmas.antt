@@ -6,7 +6,7 @@ use Rattle.dcr_nest.specs.Nest.{parents_of}
 use Rattle.dcr_policy.specs.Deny.{deny}
 use Rattle.dcr_policy.specs.Roles.{Roles}
 use Rattle.dcr_policy.proofs.LawLemmas.{nothing_law}
-use Rattle.dcr_json.specs.Judged.{Spelled}
+use Rattle.dcr_json.specs.Written.{Spelled}
 use Rattle.dcr_roles.specs.Laws.{OthersAllowAll}
 use Rattle.dcr_roles.specs.Policy.{nothing_asked}
 use Rattle.dcr_roles.proofs.PolicyLemmas.{policies_law}

@@ -1,3 +1,5 @@
+pub mod OrderLemmas
+pub mod EventLemmas
 pub mod WordLemmas
 pub mod PartLemmas
 pub mod AllowedLemmas

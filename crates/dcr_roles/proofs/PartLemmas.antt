@@ -4,11 +4,12 @@ use Rattle.std.specs.List.{slice_get}
 use Rattle.std.proofs.lemmas.Bool.{false≢true}
 use Rattle.serde_json.specs.Data.{Data, null, boolean, number, string, array, object}
 use Rattle.serde_json.specs.Find.{get}
-use Rattle.dcr_shape.specs.Members.{◌>>=◌, elements}
-use Rattle.dcr_shape.specs.Order.{EachAt, FailsFirst, RefusesFirst}
-use Rattle.dcr_shape.specs.Stages.{next_stage}
-use Rattle.dcr_shape.specs.Words.{elements_at, graph_elements}
-use Rattle.dcr_shape.proofs.OrderLemmas.{Outcome, passed, failed, not_each, least_alone, Ends, all_hold, first_fails, IsOrder, UpTo, up_to_none, up_to_next, stage, refuses_first}
+use Rattle.dcr_roles.specs.Elements.{◌>>=◌}
+use Rattle.dcr_format.specs.Members.{elements}
+use Rattle.dcr_roles.specs.Order.{EachAt, FailsFirst, RefusesFirst}
+use Rattle.dcr_roles.specs.Stages.{next_stage}
+use Rattle.dcr_roles.specs.Elements.{elements_at, graph_elements}
+use Rattle.dcr_roles.proofs.OrderLemmas.{Outcome, passed, failed, not_each, least_alone, Ends, all_hold, first_fails, IsOrder, UpTo, up_to_none, up_to_next, stage, refuses_first}
 use Rattle.dcr_roles.specs.Parts.{array_fits, events_fit, items_fit, parts_fit, users_fit}
 use Rattle.dcr_roles.specs.Words.{rank, users_of, HasArray, Holds, FailsAt}
 use Rattle.dcr_roles.specs.Written.{fits_event, fits_item, fits_user, is_array, so_where_there}

@@ -5,8 +5,8 @@ use Rattle.serde_json.specs.Data.{Data}
 use Rattle.dcr_nest.specs.Nest.{parents_of}
 use Rattle.dcr_nest.specs.Tree.{Parents}
 use Rattle.dcr_policy.specs.Roles.{Roles}
-use Rattle.dcr_json.specs.Judged.{Spelled}
-use Rattle.dcr_shape.specs.Stages.{next_stage}
+use Rattle.dcr_json.specs.Written.{Spelled}
+use Rattle.dcr_roles.specs.Stages.{next_stage}
 use Rattle.dcr_roles.specs.Allowed.{denial, unless}
 use Rattle.dcr_roles.specs.Laws.{IsGranted, PolicyComes, WritesPolicy, PoliciesAreTheFormats}
 use Rattle.dcr_roles.specs.Parts.{parts_fit}

@@ -22,10 +22,11 @@ use Rattle.dcr_policy.specs.Roles.{Roles, roles_of}
 use Rattle.dcr_policy.specs.Upward.{upward}
 use Rattle.dcr_policy.proofs.ListLemmas.{map_same}
 use Rattle.dcr_policy.proofs.UpwardLemmas.{upward_none}
-use Rattle.dcr_shape.specs.Members.{◌>>=◌, elements}
-use Rattle.dcr_shape.specs.Parts.{elements_or_none}
-use Rattle.dcr_shape.specs.Stages.{next_stage}
-use Rattle.dcr_shape.specs.Words.{elements_at, graph_elements}
+use Rattle.dcr_roles.specs.Elements.{◌>>=◌}
+use Rattle.dcr_format.specs.Members.{elements}
+use Rattle.dcr_format.specs.Members.{elements_or_none}
+use Rattle.dcr_roles.specs.Stages.{next_stage}
+use Rattle.dcr_roles.specs.Elements.{elements_at, graph_elements}
 use Rattle.dcr_roles.specs.Numbering.{name_of, user_in, AreNumbers, HasName}
 use Rattle.dcr_roles.specs.Parts.{array_fits, events_fit, failing, parts_fit, users_fit}
 use Rattle.dcr_roles.specs.Policy.{nothing_asked, policy_if_fit, policy_told, policy_written}

@@ -9,7 +9,7 @@ use Rattle.dcr_nest.specs.Tree.{Parents, atoms}
 use Rattle.dcr_policy.specs.Numbered.{all_named, AreBelow}
 use Rattle.dcr_policy.specs.Roles.{Roles, roles_of}
 use Rattle.dcr_policy.specs.Upward.{upward}
-use Rattle.dcr_shape.specs.Words.{elements_at, graph_elements}
+use Rattle.dcr_roles.specs.Elements.{elements_at, graph_elements}
 use Rattle.dcr_roles.specs.Numbering.{name_of, user_in, AreNumbers, AreNumbersOf, GoesOn, HasName}
 use Rattle.dcr_roles.specs.Policy.{policy_written}
 use Rattle.dcr_roles.specs.Written.{roles_at, roles_by}

@@ -10,8 +10,9 @@ use Rattle.serde_json.specs.Find.{as_str}
 use Rattle.serde_json.specs.View.{view}
 use Rattle.serde_json.specs.declared.value.Value.{Value}
 use Rattle.dcr_graph.specs.Names.{is_name}
-use Rattle.dcr_shape.specs.Members.{◌>>=◌, each, elements}
-use Rattle.dcr_shape.specs.Parts.{texts_in}
+use Rattle.dcr_roles.specs.Elements.{◌>>=◌, each}
+use Rattle.dcr_format.specs.Members.{elements}
+use Rattle.dcr_roles.specs.Elements.{texts_in}
 use Rattle.dcr_roles.specs.Written.{are_names, is_name_text, text_of, texts_of}
 
 abbrev pub is_name_value : Value → Bool

@@ -16,7 +16,7 @@ use Rattle.dcr_set.proofs.LeastLemmas.{least-some}
 use Rattle.dcr_graph.specs.IndexModel.{Numbers, number_at}
 use Rattle.dcr_graph.specs.Names.{is_name, number_of}
 use Rattle.dcr_graph.proofs.NamesLemmas.{place_is}
-use Rattle.dcr_shape.specs.Members.{text_at}
+use Rattle.dcr_format.specs.Members.{text_at}
 use Rattle.dcr_roles.specs.Numbering.{name_of, user_in, AreNumbers, HasName}
 use Rattle.dcr_roles.specs.Written.{are_names, fits_as_user, fits_item, fits_user, is_called, roles_at, roles_by}
 

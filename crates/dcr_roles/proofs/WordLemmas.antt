@@ -6,8 +6,8 @@ use Rattle.std.proofs.lemmas.Bool.{cases_lt, false≢true, not-false, not_from_t
 use Rattle.std.proofs.lemmas.List.{map_push, take_more}
 use Rattle.std.proofs.lemmas.Option.{slice_get-get_or, slice_get-map, slice_get_within}
 use Rattle.dcr_set.proofs.LeastLemmas.{least-from, least-none, least-none_from, least-some}
-use Rattle.dcr_shape.specs.Order.{EachAt, FailsFirst}
-use Rattle.dcr_shape.proofs.OrderLemmas.{Outcome, passed, failed}
+use Rattle.dcr_roles.specs.Order.{EachAt, FailsFirst}
+use Rattle.dcr_roles.proofs.OrderLemmas.{Outcome, passed, failed}
 use Rattle.dcr_roles.specs.Parts.{failing}
 use Rattle.dcr_roles.specs.Written.{first_wrong}
 use Rattle.dcr_roles.specs.declared.stop.PolicyPart.{PolicyPart}

@@ -4,10 +4,10 @@ use Rattle.std.specs.Result.{MatchResult}
 use Rattle.dcr_policy.specs.Roles.{Roles}
 use Rattle.dcr_json.specs.Built.{case_of, IsCase}
 use Rattle.dcr_json.specs.Case.{file_in, value_in}
-use Rattle.dcr_json.specs.Judged.{Spelled}
-use Rattle.dcr_json.specs.declared.case.CaseStop.{CaseStop}
-use Rattle.dcr_json.specs.declared.case.CaseStop.TheVariants.{NoMemory as no_case_memory}
-use Rattle.dcr_shape.specs.Stages.{◌>>=◌}
+use Rattle.dcr_json.specs.Written.{Spelled}
+use Rattle.dcr_format.specs.declared.stop.CaseStop.{CaseStop}
+use Rattle.dcr_format.specs.declared.stop.CaseStop.TheVariants.{NoMemory as no_case_memory}
+use Rattle.dcr_roles.specs.Stages.{◌>>=◌}
 use Rattle.dcr_roles.specs.Read.{policy_in}
 use Rattle.dcr_roles.specs.Words.{AreAllowed}
 use Rattle.dcr_roles.specs.declared.accepted.Accepted.{Accepted}

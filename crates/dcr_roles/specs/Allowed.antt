@@ -5,7 +5,7 @@ use Rattle.dcr_journal.specs.declared.call.Call.{Call}
 use Rattle.dcr_journal.specs.declared.call.Call.TheVariants.{Accepting}
 use Rattle.dcr_policy.specs.Deny.{deny}
 use Rattle.dcr_policy.specs.Roles.{Roles}
-use Rattle.dcr_shape.specs.Members.{◌>>=◌}
+use Rattle.dcr_roles.specs.Elements.{◌>>=◌}
 use Rattle.dcr_roles.specs.declared.stop.PolicyStop.{PolicyStop}
 use Rattle.dcr_roles.specs.declared.stop.PolicyStop.TheVariants.{Denied}
 

@@ -5,8 +5,8 @@ use Rattle.dcr_journal.specs.declared.call.Call.{Call}
 use Rattle.dcr_nest.specs.Nest.{parents_of}
 use Rattle.dcr_policy.specs.Deny.{deny}
 use Rattle.dcr_policy.specs.Roles.{Roles}
-use Rattle.dcr_shape.specs.Order.{IsFirstToFail}
-use Rattle.dcr_json.specs.Judged.{Spelled}
+use Rattle.dcr_roles.specs.Order.{IsFirstToFail}
+use Rattle.dcr_json.specs.Written.{Spelled}
 use Rattle.dcr_json.specs.Refusals.{Comes as CaseComes, SpellsCase, SpellsJson}
 use Rattle.dcr_roles.specs.Accepted.{accepted_in, SpelledBoth}
 use Rattle.dcr_roles.specs.Policy.{nothing_asked, policy_written}

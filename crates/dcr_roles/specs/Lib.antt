@@ -1,3 +1,6 @@
+pub mod Stages
+pub mod Order
+pub mod Elements
 pub mod Written
 pub mod Parts
 pub mod Policy

@@ -6,7 +6,7 @@ use Rattle.serde_json.specs.Find.{as_str}
 use Rattle.dcr_graph.specs.IndexModel.{Numbers, number_at, with_number}
 use Rattle.dcr_graph.specs.Names.{AreDistinct, is_name, number_of}
 use Rattle.dcr_policy.specs.Numbered.{named}
-use Rattle.dcr_shape.specs.Members.{text_at}
+use Rattle.dcr_format.specs.Members.{text_at}
 use Rattle.dcr_roles.specs.Written.{roles_at}
 use Rattle.dcr_roles.specs.declared.users.Users.{Users}
 

@@ -3,8 +3,8 @@
 use Rattle.std.specs.Prelude.{ℕ, codes, Option, Some, None, Result, Ok, Err, if◌then◌else◌}
 use Rattle.serde_json.specs.Data.{Data}
 use Rattle.serde_json.specs.Find.{get}
-use Rattle.dcr_shape.specs.Stages.{◌>>=◌}
-use Rattle.dcr_shape.specs.Words.{elements_at, graph_elements}
+use Rattle.dcr_roles.specs.Stages.{◌>>=◌}
+use Rattle.dcr_roles.specs.Elements.{elements_at, graph_elements}
 use Rattle.dcr_roles.specs.Written.{first_wrong, fits_event, fits_item, fits_user, is_array, so_where_there}
 use Rattle.dcr_roles.specs.declared.stop.PolicyPart.{PolicyPart}
 use Rattle.dcr_roles.specs.declared.stop.PolicyPart.TheVariants as part

@@ -4,8 +4,8 @@ use Rattle.serde_json.specs.Data.{Data}
 use Rattle.dcr_nest.specs.Tree.{Parents, atoms}
 use Rattle.dcr_policy.specs.Roles.{Roles, roles_of}
 use Rattle.dcr_policy.specs.Upward.{upward}
-use Rattle.dcr_shape.specs.Stages.{◌>>=◌}
-use Rattle.dcr_shape.specs.Words.{elements_at, graph_elements}
+use Rattle.dcr_roles.specs.Stages.{◌>>=◌}
+use Rattle.dcr_roles.specs.Elements.{elements_at, graph_elements}
 use Rattle.dcr_roles.specs.Parts.{parts_fit}
 use Rattle.dcr_roles.specs.Written.{is_third, roles_at, roles_by}
 use Rattle.dcr_roles.specs.declared.stop.PolicyStop.{PolicyStop}

@@ -5,9 +5,9 @@ use Rattle.serde_json.specs.Data.{Data}
 use Rattle.dcr_nest.specs.Nest.{parents_of}
 use Rattle.dcr_policy.specs.Roles.{Roles}
 use Rattle.dcr_json.specs.Case.{case_in}
-use Rattle.dcr_json.specs.Judged.{Spelled}
+use Rattle.dcr_json.specs.Written.{Spelled}
 use Rattle.dcr_json.specs.Refusals.{SpellsJson}
-use Rattle.dcr_shape.specs.Stages.{◌>>=◌}
+use Rattle.dcr_roles.specs.Stages.{◌>>=◌}
 use Rattle.dcr_roles.specs.Allowed.{denial, unless}
 use Rattle.dcr_roles.specs.Policy.{policy_told}
 use Rattle.dcr_roles.specs.declared.stop.PolicyStop.{PolicyStop}

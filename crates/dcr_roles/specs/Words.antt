@@ -5,8 +5,8 @@ use Rattle.serde_json.specs.Find.{get}
 use Rattle.dcr_journal.specs.declared.call.Call.{Call}
 use Rattle.dcr_policy.specs.Deny.{deny}
 use Rattle.dcr_policy.specs.Roles.{Roles}
-use Rattle.dcr_shape.specs.Order.{EachAt, FailsFirst}
-use Rattle.dcr_shape.specs.Words.{elements_at, graph_elements}
+use Rattle.dcr_roles.specs.Order.{EachAt, FailsFirst}
+use Rattle.dcr_roles.specs.Elements.{elements_at, graph_elements}
 use Rattle.dcr_roles.specs.Written.{fits_event, fits_item, fits_user, is_array, so_where_there}
 use Rattle.dcr_roles.specs.declared.stop.PolicyPart.{PolicyPart}
 use Rattle.dcr_roles.specs.declared.stop.PolicyPart.TheVariants as part

@@ -8,8 +8,8 @@ use Rattle.serde_json.specs.Data.{Data}
 use Rattle.serde_json.specs.Find.{get, as_array, as_str}
 use Rattle.dcr_set.specs.Least.{least}
 use Rattle.dcr_graph.specs.Names.{is_name}
-use Rattle.dcr_shape.specs.Members.{elements, text_at}
-use Rattle.dcr_shape.specs.Parts.{texts_in}
+use Rattle.dcr_format.specs.Members.{elements, text_at}
+use Rattle.dcr_roles.specs.Elements.{texts_in}
 
 -- whether the file is of the third version: in the others none of this is looked at
 abbrev pub is_third : Data → Bool

@@ -1,5 +1,5 @@
 ghost use Rattle.std.specs.Prelude.{◌≡◌, ◌<◌, length, Err, IfOk};
-ghost use Rattle.dcr_json.specs.declared.case.CaseStop.TheVariants.{TooLong};
+ghost use Rattle.dcr_format.specs.declared.stop.CaseStop.TheVariants.{TooLong};
 ghost use Rattle.dcr_roles.specs.Accepted.{accepted_in, IsAccepted, SaysAccepted};
 ghost use Rattle.dcr_roles.specs.declared.accepted.AcceptStop.TheVariants as why;
 

@@ -1,6 +1,6 @@
 ghost use Rattle.std.specs.Prelude.{◌≡◌, ◌<◌, ◌^◌, is_some, map, Some, IfOk};
 ghost use Rattle.serde_json.specs.View.{items_view, view};
-ghost use Rattle.dcr_size.specs.Size.{items_size};
+ghost use Rattle.dcr_format.specs.Size.{items_size};
 ghost use Rattle.dcr_roles.specs.Numbering.{user_in};
 ghost use Rattle.dcr_roles.specs.Parts.{failing};
 ghost use Rattle.dcr_roles.specs.Read.{Says};

@@ -1,8 +1,8 @@
 ghost use Rattle.std.specs.Prelude.{◌≡◌, ◌<◌, ◌^◌, codes, map, IfOk, OnOk};
 ghost use Rattle.std.specs.List.{AllZip};
 ghost use Rattle.serde_json.specs.View.{items_view, view};
-ghost use Rattle.dcr_shape.specs.Words.{graph_elements};
-ghost use Rattle.dcr_size.specs.Size.{items_size, size};
+ghost use Rattle.dcr_roles.specs.Elements.{graph_elements};
+ghost use Rattle.dcr_format.specs.Size.{items_size, size};
 ghost use Rattle.dcr_roles.specs.Numbering.{AreNumbersOf, GoesOn, IsNumbering};
 ghost use Rattle.dcr_roles.specs.Parts.{failing};
 ghost use Rattle.dcr_roles.specs.Read.{Says};
@@ -12,8 +12,8 @@ ghost use Rattle.dcr_roles.specs.declared.stop.PolicyPart.TheVariants as part;
 use crate::names::RoleNames;
 use crate::roles::roles_if_there;
 use crate::{PolicyPart, PolicyStop};
+use dcr_format::{elements, member};
 use dcr_policy::RoleList;
-use dcr_shape::{elements, member};
 use serde_json::Value;
 use std::alloc::Global;
 

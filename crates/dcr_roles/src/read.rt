@@ -2,8 +2,8 @@ ghost use Rattle.std.specs.Prelude.{◌≡◌, ◌<◌, ◌^◌, codes, length, 
 ghost use Rattle.serde_json.specs.Data.{Data};
 ghost use Rattle.serde_json.specs.View.{view};
 ghost use Rattle.dcr_nest.specs.Nest.{parents_of};
-ghost use Rattle.dcr_shape.specs.Words.{graph_elements};
-ghost use Rattle.dcr_size.specs.Size.{size};
+ghost use Rattle.dcr_roles.specs.Elements.{graph_elements};
+ghost use Rattle.dcr_format.specs.Size.{size};
 ghost use Rattle.dcr_json.specs.Built.{case_of, IsCase};
 ghost use Rattle.dcr_json.specs.Case.{case_in};
 ghost use Rattle.dcr_json.specs.Refusals.{SpellsJson};
@@ -17,12 +17,11 @@ use crate::events::{events_of, read_events};
 use crate::names::RoleNames;
 use crate::users::read_users;
 use crate::{PolicyPart, PolicyStop};
+use dcr_format::{array_or_none, member_text, read_json};
 use dcr_json::{Case, opening_is_written};
 use dcr_nest::Nested;
 use dcr_policy::{Policy, RoleList};
-use dcr_reading::read_json;
 use dcr_set::NoMemory;
-use dcr_shape::{array_or_none, member_text};
 use serde_json::Value;
 use std::alloc::Global;
 

@@ -5,9 +5,9 @@ ghost use Rattle.dcr_roles.specs.Numbering.{AreNumbersOf, GoesOn, IsNumbering};
 ghost use Rattle.dcr_roles.specs.Written.{are_names, fits_event, roles_at, texts_of};
 
 use crate::names::RoleNames;
+use dcr_format::{elements, member};
 use dcr_policy::RoleList;
 use dcr_set::NoMemory;
-use dcr_shape::{elements, member};
 use serde_json::Value;
 use std::alloc::Global;
 

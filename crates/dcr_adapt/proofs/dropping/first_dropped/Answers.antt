@@ -2,7 +2,7 @@ use Rattle.std.proofs.Common.{◌≡◌, ℕ, List, Option, not, length, sym, ap
 use Rattle.std.specs.Option.{is_none}
 use Rattle.dcr_set.proofs.LeastLemmas.{least-from, least-none_from}
 use Rattle.dcr_graph.specs.Names.{number_of}
-use Rattle.dcr_json.specs.Judged.{name_at}
+use Rattle.dcr_line.specs.Line.{name_of as name_at}
 use Rattle.dcr_adapt.proofs.dropping.first_dropped.Goals as goal
 
 -- what was found in the index of the names

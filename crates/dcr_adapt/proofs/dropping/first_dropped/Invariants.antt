@@ -2,7 +2,7 @@
 use Rattle.std.proofs.Common.{◌≡◌, ◌<◌, ℕ, false}
 use Rattle.std.specs.Option.{is_none}
 use Rattle.dcr_graph.specs.Names.{number_of}
-use Rattle.dcr_json.specs.Judged.{name_at}
+use Rattle.dcr_line.specs.Line.{name_of as name_at}
 use Rattle.dcr_adapt.proofs.dropping.first_dropped.Given as goal
 
 abbrev pub invariant-loop-number : goal.invariant-loop-number

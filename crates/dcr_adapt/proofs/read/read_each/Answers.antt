@@ -5,7 +5,7 @@ use Rattle.std.specs.Borrow.{Bor}
 use Rattle.std.proofs.lemmas.Result.{err_from_is_err_and}
 use Rattle.dcr_json.specs.Built.{case_of}
 use Rattle.dcr_json.specs.declared.case.Case.{Case}
-use Rattle.dcr_json.specs.declared.case.CaseStop.TheVariants.{TooLong}
+use Rattle.dcr_format.specs.declared.stop.CaseStop.TheVariants.{TooLong}
 use Rattle.dcr_adapt.specs.Stages.{line_texts, stages_from}
 use Rattle.dcr_adapt.specs.declared.stop.StageStop.TheVariants.{Stage, NoMemory}
 use Rattle.dcr_adapt.proofs.ReadLemmas.{all_lines, byte_left, lent_last, long_first, more_read, stop_read}

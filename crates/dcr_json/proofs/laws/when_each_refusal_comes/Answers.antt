@@ -1,4 +1,5 @@
-use Rattle.dcr_json.proofs.RefusalLemmas.{refusals_law, cases_law, one_law}
+use Rattle.dcr_json.proofs.ClashLemmas.{least_clashes}
+use Rattle.dcr_json.proofs.RefusalLemmas.{cases_law, either_law, refusals_law}
 use Rattle.dcr_json.proofs.laws.when_each_refusal_comes.Goals as goal
 
 pub returns-clause-refusals : goal.returns-clause-refusals
@@ -8,4 +9,7 @@ pub returns-clause-cases : goal.returns-clause-cases
 returns-clause-cases c = cases_law
 
 pub returns-clause-either : goal.returns-clause-either
-returns-clause-either c = one_law
+returns-clause-either c = either_law
+
+pub returns-clause-clashes : goal.returns-clause-clashes
+returns-clause-clashes c = least_clashes

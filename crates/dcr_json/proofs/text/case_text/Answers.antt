@@ -1,15 +1,13 @@
 use Rattle.std.proofs.Common.{ℕ, ◌≤◌, List, length, ap, subst, ◌∙◌, sum_by}
-use Rattle.std.specs.List.{All}
 use Rattle.serde_json.specs.View.{view}
 use Rattle.dcr_nest.specs.Nest.{parents_of, names_of}
 use Rattle.dcr_nest.proofs.FlatLemmas.{length-of_atoms}
 use Rattle.dcr_graph.specs.Projection.{HasRoom}
-use Rattle.dcr_journal.specs.Run.{IsInRange}
-use Rattle.dcr_journal.specs.declared.call.Call.{Call}
+use Rattle.dcr_session_json.specs.Accepted.{IsAcceptedSessions}
 use Rattle.dcr_json.specs.Built.{case_of, IsCase}
 use Rattle.dcr_json.specs.Case.{case_in}
 use Rattle.dcr_json.specs.declared.case.Case.{Case}
-use Rattle.dcr_json.proofs.FileLemmas.{IsWritable, case_read, written_text}
+use Rattle.dcr_json.proofs.RoundLemmas.{IsWritable, case_read, written_text}
 use Rattle.dcr_json.proofs.text.case_text.Goals as goal
 
 -- a case of few calls can be written
@@ -21,9 +19,8 @@ writable case is few =
       graph = is.accepted_graph;
       cover = is.accepted_cover;
       opening = subst (λ n. HasRoom n case.opening) (many ∙ length-of_atoms (parents_of N.nodes) (names_of N.nodes)) is.opening;
-      most_sessions = is.most_sessions;
+      sessions = subst (λ n. IsAcceptedSessions (length case.cover.names) n case.sessions) many (record { most_sessions = is.most_sessions; most_calls = is.most_calls; in_range = is.calls_in_range });
       few_calls = few;
-      in_range = subst (λ n. All (λ (calls : List Call). All (IsInRange (length case.cover.names) n) calls) case.sessions) many is.calls_in_range;
     }
 
 pub returns-clause-text : goal.returns-clause-text

@@ -5,7 +5,7 @@ use Rattle.std.proofs.lemmas.List.Elements.{All-same, All-rest, All-head}
 use Rattle.serde_json.specs.Data.{boolean, string, array, no_items, item}
 use Rattle.serde_json.specs.View.{view}
 use Rattle.dcr_set.specs.EventSet.{has, numbers}
-use Rattle.dcr_canon.proofs.ListLemmas.{value_moved}
+use Rattle.dcr_format.proofs.ValueLemmas.{value_moved}
 use Rattle.dcr_part.specs.PartText.{event_value, number_value}
 use Rattle.dcr_part.specs.Told.{name_told}
 use Rattle.dcr_part.proofs.TextLemmas.{below_room, each_number}

@@ -6,7 +6,7 @@ use Rattle.dcr_set.specs.EventSet.{has, intersection, numbers}
 use Rattle.dcr_set.proofs.NumbersLemmas.{numbers-below}
 use Rattle.dcr_set.proofs.ToldLemmas.{intersection-those}
 use Rattle.dcr_graph.specs.GraphValue.{rules_of}
-use Rattle.dcr_canon.proofs.ListLemmas.{value_moved}
+use Rattle.dcr_format.proofs.ValueLemmas.{value_moved}
 use Rattle.dcr_part.specs.PartText.{number_value, set_value, row_value}
 use Rattle.dcr_part.proofs.TextLemmas.{sources_are}
 use Rattle.dcr_part.proofs.values.rows_value.Goals as goal

@@ -1,6 +1,6 @@
 use Rattle.std.proofs.Common.{◌++◌, map, ap, ◌∙◌}
 use Rattle.serde_json.specs.View.{view}
-use Rattle.dcr_canon.proofs.ListLemmas.{value_moved}
+use Rattle.dcr_format.proofs.ValueLemmas.{value_moved}
 use Rattle.dcr_part.specs.PartText.{number_value}
 use Rattle.dcr_part.proofs.values.set_value.Goals as goal
 

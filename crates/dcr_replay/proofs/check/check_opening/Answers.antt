@@ -1,7 +1,7 @@
 use Rattle.std.proofs.Common.{refl, sym, ap, subst, ◌∙◌}
 use Rattle.std.proofs.lemmas.Result.{IfOk-weaker}
 use Rattle.dcr_line.specs.DirectoryModel.{Named}
-use Rattle.dcr_reading.specs.Accepted.{atom_names}
+use Rattle.dcr_graph_json.specs.Build.{atom_names}
 use Rattle.dcr_replay.specs.EntryLines.{Setting}
 use Rattle.dcr_replay.specs.HeadLines.{case_head, opening_at}
 use Rattle.dcr_replay.specs.ReportLines.{head_of}

@@ -12,7 +12,7 @@ pub returns-in_default-clause-verdict : goal.returns-in_default-clause-verdict
 returns-in_default-clause-verdict c =
     let bytes = c.args.bytes.now in
     wrong_head (lines_of bytes) (ap version_at (sym c.of-lines.ensures) ∙ sym c.read_version.ensures ∙ c.in_default.is)
-    c.canonical_texts_have_no_line_end.ensures c.accepted_texts_mean_one.ensures bytes refl
+    c.canonical_texts.ensures.one_line c.canonical_texts.ensures.one bytes refl
 
 pub returns-clause-verdict : goal.returns-clause-verdict
 returns-clause-verdict c = IfOk-weaker c.check_graph.result _ _ (λ verdict told.
@@ -20,4 +20,4 @@ returns-clause-verdict c = IfOk-weaker c.check_graph.result _ _ (λ verdict told
     tells_on [] (version_text version) (lines_of bytes) verdict
     (version_line_told (lines_of bytes) version (ap version_at (sym c.of-lines.ensures) ∙ sym c.read_version.ensures ∙ c.in-Some.is))
     (subst (λ l. TellsOf (version_text version ∷ []) l verdict) (c.pass.ensures ∙ ap (drop 1) c.of-lines.ensures) told)
-    c.canonical_texts_have_no_line_end.ensures c.accepted_texts_mean_one.ensures bytes refl) c.check_graph.ensures.verdict
+    c.canonical_texts.ensures.one_line c.canonical_texts.ensures.one bytes refl) c.check_graph.ensures.verdict

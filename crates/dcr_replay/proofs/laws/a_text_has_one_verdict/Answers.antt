@@ -2,4 +2,4 @@ use Rattle.dcr_replay.proofs.OneLemmas.{verdict_is_one}
 use Rattle.dcr_replay.proofs.laws.a_text_has_one_verdict.Goals as goal
 
 pub returns : goal.returns
-returns c = verdict_is_one c.canonical_texts_have_no_line_end.ensures c.accepted_texts_mean_one.ensures
+returns c = verdict_is_one c.canonical_texts.ensures.one_line c.canonical_texts.ensures.one

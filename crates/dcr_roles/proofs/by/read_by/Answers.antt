@@ -2,7 +2,7 @@ use Rattle.std.proofs.Common.{◌≡◌, ◌<◌, ◌++◌, ◌∷◌, [], false
 use Rattle.std.proofs.lemmas.List.{length-map, map_push}
 use Rattle.serde_json.specs.Data.{Data}
 use Rattle.serde_json.specs.View.{view}
-use Rattle.dcr_size.proofs.SizeLemmas.{length-items}
+use Rattle.dcr_format.proofs.SizeLemmas.{length-items}
 use Rattle.dcr_roles.specs.Numbering.{user_in}
 use Rattle.dcr_roles.specs.Parts.{failing}
 use Rattle.dcr_roles.specs.declared.stop.PolicyPart.TheVariants as part

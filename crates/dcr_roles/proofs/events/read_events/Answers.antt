@@ -3,7 +3,7 @@ use Rattle.std.proofs.lemmas.List.{length-map}
 use Rattle.std.proofs.lemmas.Option.{MatchOption-at_none, MatchOption-at_some}
 use Rattle.serde_json.specs.Data.{Data}
 use Rattle.serde_json.specs.View.{view}
-use Rattle.dcr_size.proofs.SizeLemmas.{length-items}
+use Rattle.dcr_format.proofs.SizeLemmas.{length-items}
 use Rattle.dcr_roles.specs.Parts.{failing}
 use Rattle.dcr_roles.specs.Written.{fits_event}
 use Rattle.dcr_roles.specs.declared.stop.PolicyPart.TheVariants as part

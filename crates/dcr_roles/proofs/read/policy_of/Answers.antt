@@ -1,9 +1,11 @@
-use Rattle.std.proofs.Common.{◌≡◌, List, length, sym, subst, ◌∙◌}
+use Rattle.std.proofs.Common.{◌≡◌, List, length, ap, sym, subst, ◌∙◌}
 use Rattle.std.specs.List.{All}
+use Rattle.serde_json.specs.Data.{Data}
 use Rattle.serde_json.specs.View.{view}
 use Rattle.dcr_nest.specs.Nest.{parents_of}
 use Rattle.dcr_journal.specs.declared.call.Call.{Call}
 use Rattle.dcr_policy.specs.Deny.{IsOfAtoms}
+use Rattle.dcr_roles.proofs.EventLemmas.{events_same}
 use Rattle.dcr_roles.proofs.ReadLemmas.{calls_of_atoms, flat_atoms, told_atoms}
 use Rattle.dcr_roles.proofs.read.policy_of.Goals as goal
 
@@ -11,7 +13,7 @@ pub told-requires-clause-as_many : goal.told-requires-clause-as_many
 told-requires-clause-as_many c =
     let is = c.requires.spelled in
     let opens = c.opening_is_written.ensures is.bytes _ _ is.json is.spells in
-    opens.as_many
+    ap (λ (ds : List Data). length ds) (sym (events_same (view c.args.value.now))) ∙ opens.as_many
 
 pub try_sessions-requires-clause-atoms : goal.try_sessions-requires-clause-atoms
 try_sessions-requires-clause-atoms c =

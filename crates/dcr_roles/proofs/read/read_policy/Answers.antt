@@ -2,7 +2,7 @@ use Rattle.std.proofs.Common.{◌≤◌, length, option_map, sym, ap, subst, ◌
 use Rattle.std.specs.Option.{IfSome}
 use Rattle.std.proofs.lemmas.Option.{none-some}
 use Rattle.serde_json.specs.View.{view}
-use Rattle.dcr_size.specs.Size.{size}
+use Rattle.dcr_format.specs.Size.{size}
 use Rattle.dcr_json.specs.Built.{case_of}
 use Rattle.dcr_roles.proofs.AcceptedLemmas.{spelled_json}
 use Rattle.dcr_roles.proofs.read.read_policy.Goals as goal

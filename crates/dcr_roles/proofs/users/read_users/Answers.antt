@@ -4,7 +4,7 @@ use Rattle.std.proofs.lemmas.List.{length-map, map_push, take_all}
 use Rattle.std.proofs.lemmas.List.Elements.{All-nil, All-push}
 use Rattle.serde_json.specs.View.{view}
 use Rattle.dcr_graph.specs.IndexModel.{number_at}
-use Rattle.dcr_size.proofs.SizeLemmas.{length-items}
+use Rattle.dcr_format.proofs.SizeLemmas.{length-items}
 use Rattle.dcr_roles.specs.Numbering.{name_of, AreNumbers, HasName}
 use Rattle.dcr_roles.specs.Parts.{failing}
 use Rattle.dcr_roles.specs.Written.{fits_user}

@@ -1,5 +1,0 @@
-mod StringLemmas
-mod ValueLemmas
-mod GivenLemmas
-mod FileLemmas
-mod VerdictLemmas

@@ -1,0 +1,5 @@
+pub mod ReadingLemmas
+pub mod NextLemmas
+pub mod TalkedLemmas
+pub mod SayLemmas
+pub mod GreetedLemmas

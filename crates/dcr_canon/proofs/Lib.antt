@@ -1,4 +1,0 @@
-pub mod PlainLemmas
-mod LineLemmas
-pub mod Utf8Lemmas
-pub mod ListLemmas

@@ -1,3 +1,0 @@
-pub mod GraphText
-pub mod CoverText
-pub mod Laws

@@ -1,3 +1,0 @@
-pub mod SetsLemmas
-pub mod CheckLemmas
-pub mod RefusalLemmas

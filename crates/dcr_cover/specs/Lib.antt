@@ -1,4 +1,0 @@
-pub mod Told
-pub mod Steps
-pub mod IndexModel
-pub mod Refusals

@@ -1,0 +1,10 @@
+pub mod Sites
+pub mod Shape
+pub mod Limits
+pub mod Build
+pub mod Seen
+pub mod Check
+pub mod Text
+pub mod Accepted
+pub mod Refusals
+pub mod Laws

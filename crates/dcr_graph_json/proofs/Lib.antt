@@ -1,0 +1,11 @@
+pub mod LoopLemmas
+pub mod NodeLemmas
+pub mod FlatLemmas
+pub mod BuildLemmas
+pub mod TextLemmas
+pub mod ValueLemmas
+pub mod RoundLemmas
+pub mod OpeningLemmas
+pub mod ReadLemmas
+pub mod SeenLemmas
+pub mod AcceptedLemmas

@@ -1,0 +1,4 @@
+pub mod BitLemmas
+pub mod HelloLemmas
+pub mod KeyLemmas
+pub mod PlaceLemmas

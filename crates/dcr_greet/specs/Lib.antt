@@ -1,0 +1,5 @@
+pub mod Greeting
+pub mod Hmac
+pub mod KeyModel
+pub mod KeyText
+pub mod Laws

@@ -1,0 +1,3 @@
+pub mod DialPorter
+pub mod ListenPorter
+pub mod SiteLink

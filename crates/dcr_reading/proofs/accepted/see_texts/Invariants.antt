@@ -1,7 +1,0 @@
-use Rattle.std.proofs.Common.{take}
-use Rattle.std.specs.List.{All}
-use Rattle.dcr_reading.proofs.TextLemmas.{IsSeen}
-use Rattle.dcr_reading.proofs.accepted.see_texts.Given as goal
-
-abbrev pub invariant-loop-node : goal.invariant-loop-node
-invariant-loop-node l = All IsSeen (take l.node-index l.nodes)

@@ -1,5 +1,0 @@
-pub mod Accepted
-pub mod File
-pub mod Found
-pub mod Lent
-pub mod Laws

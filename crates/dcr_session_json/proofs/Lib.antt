@@ -1,0 +1,4 @@
+pub mod CallLemmas
+pub mod TextLemmas
+pub mod ValueLemmas
+pub mod RoundLemmas

@@ -1,0 +1,6 @@
+use Rattle.std.proofs.Common.{arith}
+use Rattle.dcr_format.proofs.SizeLemmas.{length-items}
+use Rattle.dcr_session_json.proofs.written.SessionText.limits.Goals as goal
+
+pub try_count-requires : goal.try_count-requires
+try_count-requires c = omega (arith, c.args.self.now.few, length-items c.args.self.now.sessions.now)

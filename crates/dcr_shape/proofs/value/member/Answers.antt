@@ -1,6 +1,0 @@
-use Rattle.serde_json.specs.View.{view}
-use Rattle.dcr_shape.proofs.ValueLemmas.{member_small}
-use Rattle.dcr_shape.proofs.value.member.Goals as goal
-
-pub returns-clause-smaller : goal.returns-clause-smaller
-returns-clause-smaller c = member_small c.get.result c.args.name.now (view c.args.value.now) c.get.ensures

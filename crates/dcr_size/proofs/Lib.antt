@@ -1,3 +1,0 @@
-mod Lexed
-mod Parsed
-pub mod SizeLemmas

@@ -1,5 +1,0 @@
-use Rattle.dcr_size.proofs.SizeLemmas.{no_value_is_larger}
-use Rattle.dcr_size.proofs.laws.no_value_is_larger_than_its_text.Goals as goal
-
-pub returns : goal.returns
-returns c = no_value_is_larger

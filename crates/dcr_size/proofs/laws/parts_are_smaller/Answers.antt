@@ -1,5 +1,0 @@
-use Rattle.dcr_size.proofs.SizeLemmas.{smaller_parts}
-use Rattle.dcr_size.proofs.laws.parts_are_smaller.Goals as goal
-
-pub returns : goal.returns
-returns c = smaller_parts
