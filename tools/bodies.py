@@ -37,11 +37,23 @@ class Body:
         return "::".join([*above, self.name])
 
 
+def behind_generics(head):
+    """What stands behind the parameters of an impl: behind the bracket that closes the first one, where one stands there."""
+    rest = head[len("impl") :]
+    if not rest.startswith("<"):
+        return rest
+    depth = 0
+    for at, one in enumerate(rest):
+        depth += (one == "<") - (one == ">" and rest[at - 1] not in "-=")
+        if not depth:
+            return rest[at + 1 :]
+    return rest
+
+
 def owner_of(head):
     """The name by which a check calls an impl with this head: its type, and behind it the trait with its own type, if any."""
-    plain = re.sub(r"^impl<[^{]*?>(?= )", "impl", head).partition("{")[0]
-    trait, behind, own = plain[len("impl") :].rpartition(" for ")
-    return re.match(r"\s*(?:\w+::)*(\w+)", own)[1] + ("".join(re.findall(r"\w+(?!\w|::)", trait)) if behind else "")
+    trait, behind, own = behind_generics(head).partition("{")[0].rpartition(" for ")
+    return re.match(r"\W*(?:\w+::)*(\w+)", own)[1] + ("".join(re.findall(r"\w+(?!\w|::)", trait)) if behind else "")
 
 
 def bodies_of(file, text):

@@ -135,9 +135,10 @@ def used_seconds(group):
     for name in os.listdir("/proc"):
         if name.isdigit():
             try:
-                with open("/proc/%s/stat" % name) as file:
-                    # (behind the name in brackets: the state, the parent, the group, .., the ticks of it and of its children)
-                    words = file.read().rpartition(")")[2].split()
+                with open("/proc/%s/stat" % name, "rb") as file:
+                    # (behind the name in brackets, whose bytes may be any: the state, the parent, the group, .., the ticks of
+                    # it and of its children)
+                    words = file.read().rpartition(b")")[2].split()
             except OSError:
                 continue
             used += sum(map(int, words[11:15])) if int(words[2]) == group else 0
@@ -179,8 +180,8 @@ class Build:
 
     def most(self):
         """How many crates are proved at a time: two for each processor at most, where memory lasts for as many."""
-        with open("/proc/meminfo") as file:
-            available = int(re.search(r"MemAvailable: +(\d+)", file.read()).group(1)) * 1024
+        with open("/proc/meminfo", "rb") as file:
+            available = int(re.search(rb"MemAvailable: +(\d+)", file.read()).group(1)) * 1024
         return max(1, min(2 * len(os.sched_getaffinity(0)), len(self.running) + available // MEMORY))
 
     def left(self, crate):
@@ -242,8 +243,10 @@ class Build:
         """Notes what each crate took of the processors, those of earlier builds too."""
         path = os.path.join(LIBRARIES, "seconds")
         took = {**measured_seconds(path), **self.took}
-        with open(path, "w") as file:
+        # (in one step, since a line that was cut off would be read by every later build)
+        with open(path + ".new", "w") as file:
             file.writelines("%s %.0f\n" % (it.name, took[it.name]) for it in self.crates if it.name in took)
+        os.replace(path + ".new", path)
 
     def interrupt(self, number, _):
         """Notes a signal. It ends the build where all that was begun is known, so that nothing is left behind."""

@@ -7,6 +7,7 @@
     tools/explain.py STAGES case 1 refused ..    the same of one of several cases, each on a line, as `dcr adapt` reads them
     tools/explain.py REPORT invalid 6 outcome    the line of a report that `replay` tells of
     tools/explain.py CASE tape other-case        why `dcr.tape` in the current folder is refused
+    tools/explain.py PART refused 19 not-part    why `dcr site` refuses its input; and by refused 20 keys 1 its key
     tools/explain.py INPUT refused 15 log 3      the record of an input of `conform`; and its case, whose line stands first
 
 Each place is FILE:LINE:COLUMN, counted from 1, with the text that stands there. Of a file alone it finds out by itself
@@ -281,6 +282,12 @@ TAPES = {
     "long": ("A tape is gone on from where it has at most 1000000 executions.", "keep it, and begin anew in another folder"),
 }
 
+# What `site` refuses, of which nothing more is told: a part is one byte for byte, and a key isn't for every eye.
+OF_A_SITE = {
+    "not-part": ("this is no part", "A part is what `dcr part SITE` writes, byte for byte.", "hand it in as it was written; tools/part.py --read tells what stands in one"),
+    "keys": ("the file dcr.key of the folder in which the site runs is no key", "A key is 64 hex digits and a line feed, and nothing else.", "write it again, or take the file away where the sites have no keys"),
+}
+
 
 def shown_at(path, text, value):
     """FILE:LINE:COLUMN of a value, and the text that stands there."""
@@ -360,7 +367,7 @@ def tell_odd(path, text, found):
 def explain_refusal(path, data, words):
     """Tells the place of a refusal. Answers 1."""
     if words[1] == "1":
-        print("%s: %d bytes\n  rule: A case has at most %d bytes, also with a log behind it, a report at most %d.\n  mend: split the case, or shorten its labels; a log is split by tools/from_log.py --parts" % (path, len(data), reader.MOST_BYTES, replay.MOST_BYTES))
+        print("%s: %d bytes\n  rule: A case has at most %d bytes, also with a log behind it, a report at most %d, a part at most 33554432.\n  mend: split the case, or shorten its labels; a log is split by tools/from_log.py --parts; a part is what `dcr part SITE` wrote" % (path, len(data), reader.MOST_BYTES, replay.MOST_BYTES))
         return 1
     if words[1] == "15":
         tell_log(path, data, int(words[3]))
@@ -511,6 +518,9 @@ def explain(path, words):
         return 1
     if words[:1] == ["case"]:
         return explain_stage(path, data, words)
+    if words in (["refused", "19", "not-part"], ["refused", "20", "keys", "1"]):
+        print("%s: %s\n  rule: %s\n  mend: %s" % (path, *OF_A_SITE[words[2]]))
+        return 1
     if words[:3] == ["refused", "14", "cases"]:
         return explain_count(path, data, words[3])
     if words[:1] == ["refused"]:

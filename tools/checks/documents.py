@@ -74,6 +74,22 @@ def check_sources_that_are_named_are_there():
             held = read(there).decode() if os.path.exists(there) else ""
             lost += ["%s: %s: %s" % (page, path, it) for it in re.findall(r"`(\w+)`", words) if not re.search(r"\b%s\b" % it, held)]
             lost += [] if held else ["%s: %s" % (page, path)]
+        # (the same of files that are told by their names alone, of which several crates may have one)
+        for files, words in re.findall(r"((?:`(?:\w+/)*\w+\.(?:rt|antt)`, )*`(?:\w+/)*\w+\.(?:rt|antt)`)(?: of `\w+`)?: ((?:`\w+`(?:, )?)+)", text):
+            told = {os.path.basename(it) for it in re.findall(r"`([^`]+)`", files)}
+            held = " ".join(read(it).decode() for it in paths if os.path.basename(it) in told)
+            lost += ["%s: %s: %s" % (page, files, it) for it in re.findall(r"`(\w+)`", words) if not re.search(r"\b%s\b" % it, held)]
+    want(not lost, "; ".join(lost))
+
+
+def check_each_crate_is_told_of():
+    used = {}
+    for line in read("crates.txt").decode().splitlines():
+        name, colon, words = line.partition("#")[0].partition(":")
+        if colon:
+            used[name.split()[0]] = words.split()
+    ported = {it for words in used.values() for it in words} - {*used}
+    lost = ["docs/%s: %s" % (page, it) for page, names in (("ARCHITECTURE.md", used), ("TRUSTED.md", ported)) for it in sorted(names) if "`%s`" % it not in read("docs/" + page).decode()]
     want(not lost, "; ".join(lost))
 
 

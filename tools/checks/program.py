@@ -20,8 +20,10 @@ DONE, USAGE, REFUSED, READ_FAULT, WRITE_FAULT, NO_MEMORY, DISK_FAULT, INVALID, T
 
 @functools.lru_cache(maxsize=None)
 def prepare():
-    """Builds the program where `./dcr` finds that it isn't built."""
-    subprocess.run([os.path.join(TOP, "dcr"), "run"], input=read("examples/first.json"), stdout=subprocess.DEVNULL)
+    """Builds the program where `./dcr` finds that it isn't built. Where that fails nothing is tried, since an older one may be there."""
+    status = subprocess.run([os.path.join(TOP, "dcr"), "run"], input=read("examples/first.json"), stdout=subprocess.DEVNULL).returncode
+    if status:
+        sys.exit("tools/check: ./dcr, which builds the program, ended with status %d" % status)
 
 
 def dcr(*words, given=b"", **how):

@@ -1,4 +1,4 @@
-"""`./dcr` over a small checkout of four crates and a stand-in for the kit, which is slow, fails, or is missing."""
+"""`./dcr` and `.ci/run` over a small checkout of four crates and a stand-in for the kit, which is slow, fails, or is missing."""
 
 import contextlib
 import os
@@ -348,3 +348,40 @@ def check_another_program_in_its_place_is_not_run():
         with open(it.top + "/crates/dcr/out/dcr", "w") as file:
             file.write("#!/bin/sh\necho another\n")
         want_ran(it.dcr("run"))
+
+
+# ---- the gate, over a stand-in that tells where it is called
+
+
+def check_the_gate_is_called_in_its_own_folder_and_hands_its_status_on():
+    with checkout() as it, tempfile.TemporaryDirectory() as other:
+        for folder in (it.top + "/.ci", it.top + "/crates/dcr/out", other + "/.ci"):
+            os.makedirs(folder)
+        shutil.copy(TOP + "/.ci/run", it.top + "/.ci/run")
+        it.write("crates/dcr/out/dcr", "a program")
+        for path, text in ((it.bin + "/rt", '#!/bin/sh\necho "first, $*"\npwd -P\n[ -z "${MAKES:-}" ] || { echo "$MAKES" >crates/dcr/out/dcr && chmod +x crates/dcr/out/dcr; }\nexit "${GATE:-0}"\n'), (it.top + "/tools/check", '#!/bin/sh\necho checked\nexit "${CHECKS:-0}"\n')):
+            with open(path, "w") as file:
+                file.write(text)
+            os.chmod(path, 0o755)
+
+        def gate(**more):
+            status, said, _ = run([".ci/run"], env={**it.environment, "CDPATH": other, **more}, cwd=it.top)
+            return status, said.decode().splitlines()
+
+        here = os.path.realpath(it.top)
+        want(gate() == (0, ["first, ci", "checked", here]), str(gate()))
+        want(gate(CHECKS="1") == (1, ["first, ci", "checked", here]), "a check that fails")
+        want(gate(GATE="3") == (3, ["first, ci", here]), "a gate that fails")
+        # A program that stood there and that the gate didn't make isn't taken for that of these sources, and stays.
+        program = it.top + "/crates/dcr/out/dcr"
+
+        def stands(text):
+            with open(program) as file:
+                want(file.read() == text and not os.path.exists(program + ".aside"), "another program stands there")
+
+        want(not os.path.exists(program + ".built"), "an old program is taken for a new one")
+        stands("a program")
+        want(gate(GATE="3", MAKES="half a program")[0] == 3 and not os.path.exists(program + ".built"), "the program of a gate that failed is taken")
+        stands("a program")
+        want(gate(MAKES="another program")[0] == 0 and os.path.exists(program + ".built"), "the gate's own program isn't known")
+        stands("another program\n")

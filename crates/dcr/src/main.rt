@@ -1,30 +1,40 @@
-//! The program `dcr`: standard input to standard output, connections to port 7411, the tape in the current folder, and the
-//! status of the run.
+//! The program `dcr`: standard input to standard output, connections to port 7411 and from a site to port 7412, the tape and the
+//! key in the current folder, and the status of the run.
 #![tactic(auto)]
 
-ghost use Rattle.std.specs.Prelude.{◌≡◌, ◌≢◌, [], Err, IsErr, IfErr, IfOk, drop};
+ghost use Rattle.std.specs.Prelude.{◌≡◌, ◌≢◌, [], IfErr, IfOk, MatchBool, drop};
 ghost use Rattle.std.specs.IoError.{error_kind};
 ghost use Rattle.std.specs.Process.{exit_status};
 ghost use Rattle.std.specs.Vec.Iter.{into_iter_items};
 ghost use Rattle.dcr_base.specs.Status.{code_of};
-ghost use Rattle.dcr_app.specs.Command.{command_in};
-ghost use Rattle.dcr.specs.Exit.{Exits, IsUntouched, outside};
+ghost use Rattle.dcr.specs.Exit.{Exits, IsSite, LeavesUnused, Serves, outside};
+ghost use Rattle.dcr.specs.declared.Left.TheVariants.{Unbegun};
 
+mod key_file;
 mod telling;
+mod telling_porter;
 
+use crate::key_file::{KeyFile, key_file};
 use crate::telling::{TellingDoor, TellingSink, number_behind, tell_failure};
+use crate::telling_porter::{TellingPorter, tell_site_failure};
+use dcr_apart::{SiteEnd, site};
 use dcr_app::{End, Status, dcr};
 use dcr_base::{Disk, Door, FileDisk, Gate, Link, OpenGate, Sink, Source, StdSink, StdSource};
+use dcr_porter::Porter;
 use std::alloc::Global;
 use std::fs::File;
 use std::io::{Eprint, ErrorKind};
 use std::process::ExitCode;
 use std::sync::Wait;
 use std::thread::Threads;
+use std::time::Clock;
 use std::{env, io};
 
 // The port of 127.0.0.1 at which sessions are served.
 const PORT: u16 = 7411;
+
+// The port of 127.0.0.1 at which sites meet who orders their calls.
+const SITES_PORT: u16 = 7412;
 
 // A folder, from which nothing can be read and to which nothing can be written.
 const NOWHERE: &str = "/";
@@ -49,7 +59,8 @@ fn main(rt: HostRuntime) -> ExitCode {
     let disk = FileDisk::new(rt.alloc(), files);
     let sessions = number_behind(env::args(&rt), "--sessions");
     let workers = number_behind(env::args(&rt), "--workers");
-    let Exit { code, answer: _ } = program(
+    let key = key_file(&rt, rt.alloc(), env::args(&rt));
+    let Exit { code, left: _ } = program(
         &rt,
         rt.alloc(),
         env::args(&rt),
@@ -58,6 +69,8 @@ fn main(rt: HostRuntime) -> ExitCode {
         TellingDoor::new(&rt, PORT, sessions, workers),
         disk,
         OpenGate,
+        key,
+        TellingPorter::new(&rt, SITES_PORT),
     );
     code
 }
@@ -70,30 +83,44 @@ fn unopened<R: Eprint>(rt: &R) -> ExitCode
     exit_of(Status::DiskFault)
 }
 
-// The door and the disk of a program that has called neither.
+// What was handed in, where nothing was begun.
 #[derive(Drop)]
-struct Unused<B, D> {
+struct Unused<B, D, P> {
     door: B,
     disk: D,
+    porter: P,
 }
 
-// What the process ends with, and the end of its one command. There is none where memory failed before it.
+// What the one command has left.
 #[derive(Drop)]
-struct Exit<B: Door, D> {
+enum Left<B: Door, D, P: Porter> {
+    // The end of a command of `dcr`, and the porter, which was not called.
+    Answered(End<B, D>, P),
+    // The end of a site, and the door and the disk, which were not called.
+    Served(SiteEnd<P>, B, D),
+    // Nothing was begun.
+    Unbegun(Unused<B, D, P>),
+}
+
+// What the process ends with, and what its one command has left.
+#[derive(Drop)]
+struct Exit<B: Door, D, P: Porter> {
     code: ExitCode,
-    answer: Result<End<B, D>, Unused<B, D>>,
+    left: Left<B, D, P>,
 }
 
 // The whole program: the words behind the first are the command, and the process ends with the number of the status
-// that the command ends with on this input, output, door and disk. Words that are no text are no command's. Where memory
-// fails while the words are gathered, it ends as for want of memory, with nothing read and nothing written.
+// that the command ends with on this input, output, door and disk, and a site on this input, output, key and porter. Words that
+// are no text are no command's. Where memory fails while the words are gathered, it ends as for want of memory, with nothing read
+// and nothing written, and so does a site whose key was not read, as for an input that failed.
 fn program<
     I: Source,
     O: Sink,
     B: Door<Link: Link<Rest: Drop + Send> + Send> + Drop + Send,
     D: Disk + Drop + Send,
     G: Gate + Drop + Sync,
-    R: Threads + Wait + Eprint + Sync,
+    P: Porter + Drop,
+    R: Threads + Wait + Clock + Eprint + Sync,
 >(
     rt: &R,
     alloc: Global,
@@ -103,32 +130,35 @@ fn program<
     door: B,
     disk: D,
     gate: G,
-) -> Exit<B, D>
-    ensures words { IfOk words (λ args. Exits D.view D.faults B.tells
-        (command_in (drop 1 (into_iter_items args))) door disk
+    key: KeyFile,
+    porter: P,
+) -> Exit<B, D, P>
+    ensures words { IfOk words (λ args. Exits D.view D.faults B.tells P.tells
+        (drop 1 (into_iter_items args)) key door disk porter
         (outside (I.gives input.old) (I.has_ended input.old) (O.takes output.old))
         (outside (I.gives input.new) (I.has_ended input.new) (O.takes output.new))
-        (exit_status result.code) result.answer) }
-    ensures no_text { IfErr words (λ error. error_kind error ≡ ErrorKind.InvalidData → Exits D.view D.faults B.tells
-        (command_in []) door disk
+        (exit_status result.code) result.left) }
+    ensures no_text { IfErr words (λ error. error_kind error ≡ ErrorKind.InvalidData → Exits D.view D.faults B.tells P.tells
+        [] key door disk porter
         (outside (I.gives input.old) (I.has_ended input.old) (O.takes output.old))
         (outside (I.gives input.new) (I.has_ended input.new) (O.takes output.new))
-        (exit_status result.code) result.answer) }
+        (exit_status result.code) result.left) }
     ensures no_words { IfErr words (λ error. error_kind error ≢ ErrorKind.InvalidData → exit_status result.code ≡ code_of Status.NoMemory) }
-    ensures unread { IfErr words (λ error. error_kind error ≢ ErrorKind.InvalidData → IfErr result.answer (IsUntouched door disk
+    ensures uncalled { IfErr words (λ error. error_kind error ≢ ErrorKind.InvalidData → LeavesUnused door disk porter
         (outside (I.gives input.old) (I.has_ended input.old) (O.takes output.old))
-        (outside (I.gives input.new) (I.has_ended input.new) (O.takes output.new)))) }
-    ensures uncalled { IfErr words (λ error. error_kind error ≢ ErrorKind.InvalidData → IsErr result.answer) }
+        (outside (I.gives input.new) (I.has_ended input.new) (O.takes output.new)) result.left) }
 {
     match words {
         Ok(words) => match behind_first(alloc, words) {
-            Ok(words) => answer(rt, alloc, &words, input, output, door, disk, gate),
-            Err(_) => starved(door, disk),
+            Ok(words) => answer(
+                rt, alloc, &words, input, output, door, disk, gate, key, porter,
+            ),
+            Err(_) => unbegun(Status::NoMemory, door, disk, porter),
         },
         Err(error) if error.kind() == ErrorKind::InvalidData => {
-            answer(rt, alloc, &[], input, output, door, disk, gate)
+            answer(rt, alloc, &[], input, output, door, disk, gate, key, porter)
         }
-        Err(_) => starved(door, disk),
+        Err(_) => unbegun(Status::NoMemory, door, disk, porter),
     }
 }
 
@@ -139,7 +169,8 @@ fn answer<
     B: Door<Link: Link<Rest: Drop + Send> + Send> + Drop + Send,
     D: Disk + Drop + Send,
     G: Gate + Drop + Sync,
-    R: Threads + Wait + Eprint + Sync,
+    P: Porter + Drop,
+    R: Threads + Wait + Clock + Eprint + Sync,
 >(
     rt: &R,
     alloc: Global,
@@ -149,29 +180,86 @@ fn answer<
     door: B,
     disk: D,
     gate: G,
-) -> Exit<B, D>
-    ensures { Exits D.view D.faults B.tells
-        (command_in words.now) door disk
+    key: KeyFile,
+    porter: P,
+) -> Exit<B, D, P>
+    ensures { Exits D.view D.faults B.tells P.tells
+        words.now key door disk porter
         (outside (I.gives input.old) (I.has_ended input.old) (O.takes output.old))
         (outside (I.gives input.new) (I.has_ended input.new) (O.takes output.new))
-        (exit_status result.code) result.answer }
+        (exit_status result.code) result.left }
 {
+    if is_site(words) {
+        return serve(
+            rt,
+            alloc,
+            &words[1..],
+            input,
+            output,
+            door,
+            disk,
+            key,
+            porter,
+        );
+    }
     let end = dcr(rt, alloc, words, input, output, door, disk, gate);
     tell_failure(rt, end.status);
     Exit {
         code: exit_of(end.status),
-        answer: Ok(end),
+        left: Left::Answered(end, porter),
     }
 }
 
-// Ends for want of memory, with the door and the disk as they are.
-fn starved<B: Door, D>(door: B, disk: D) -> Exit<B, D>
-    ensures code { exit_status result.code ≡ code_of Status.NoMemory }
-    ensures answer { result.answer ≡ Err (record { door = door; disk = disk }) }
+// Whether the words are those of a site.
+fn is_site(words: &[String]) -> bool
+    ensures { MatchBool result (IsSite words.now) (IsSite words.now → ⊥) }
 {
+    match words.first() {
+        Some(word) => word.as_str() == "site",
+        None => false,
+    }
+}
+
+// Is the site that the words behind its own ask for.
+fn serve<I: Source, O: Sink, B: Door, D, P: Porter + Drop, R: Wait + Clock + Eprint>(
+    rt: &R,
+    alloc: Global,
+    words: &[String],
+    input: &mut I,
+    output: &mut O,
+    door: B,
+    disk: D,
+    key: KeyFile,
+    porter: P,
+) -> Exit<B, D, P>
+    ensures { Serves P.tells words.now key door disk porter
+        (outside (I.gives input.old) (I.has_ended input.old) (O.takes output.old))
+        (outside (I.gives input.new) (I.has_ended input.new) (O.takes output.new))
+        (exit_status result.code) result.left }
+{
+    match key {
+        KeyFile::Unread => unbegun(Status::ReadFault, door, disk, porter),
+        KeyFile::Text(key) => {
+            let end = site(rt, alloc, words, input, output, key, porter);
+            tell_site_failure(rt, end.status);
+            let code = exit_of(end.status);
+            Exit {
+                code,
+                left: Left::Served(end, door, disk),
+            }
+        }
+    }
+}
+
+// Ends with this status before anything was begun.
+fn unbegun<B: Door, D, P: Porter>(status: Status, door: B, disk: D, porter: P) -> Exit<B, D, P>
+    ensures code { exit_status result.code ≡ code_of status }
+    ensures left { result.left ≡ Unbegun (record { door = door; disk = disk; porter = porter }) }
+{
+    let code = exit_of(status);
     Exit {
-        code: exit_of(Status::NoMemory),
-        answer: Err(Unused { door, disk }),
+        code,
+        left: Left::Unbegun(Unused { door, disk, porter }),
     }
 }
 

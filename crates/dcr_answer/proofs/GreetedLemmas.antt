@@ -1,5 +1,5 @@
 -- A link that was greeted and then answered, and one that wasn't greeted.
-use Rattle.std.proofs.Common.{◌≡◌, ℕ, ◌<◌, List, [], ◌++◌, length, take, Option, Some, None, Result, Ok, Err, inl, inr, refl, sym, subst, ◌∙◌, append-nil}
+use Rattle.std.proofs.Common.{◌≡◌, ℕ, List, [], ◌++◌, Option, Some, Ok, inl, inr, refl, sym, subst, ◌∙◌, append-nil}
 use Rattle.std.specs.Io.KnownBytes.{Consumes}
 use Rattle.std.proofs.KnownBytes.{Consumes-trans}
 use Rattle.std.proofs.lemmas.List.Elements.{All-nil}
@@ -7,11 +7,10 @@ use Rattle.dcr_base.specs.Side.{Side, Adds}
 use Rattle.dcr_base.proofs.CountLemmas.{fails_since}
 use Rattle.dcr_set.specs.EventSet.{Set}
 use Rattle.dcr_graph.specs.Rules.{Rules}
-use Rattle.dcr_greet.specs.Greeting.{hello_text, hello_to, SpellChallenge}
+use Rattle.dcr_greet.specs.Greeting.{hello_text, hello_to}
 use Rattle.dcr_greet.specs.declared.challenge.Challenge.{Challenge}
 use Rattle.dcr_wire.specs.Laws.{Sent}
 use Rattle.dcr_node.specs.SiteState.{SiteState}
-use Rattle.dcr_talk.specs.Hearing.{Read}
 use Rattle.dcr_talk.specs.Talk.{told_by}
 use Rattle.dcr_answer.specs.Reading.{MayBeAsked}
 use Rattle.dcr_answer.specs.Telling.{Sends, StopsSending}

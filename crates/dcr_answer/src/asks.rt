@@ -12,13 +12,14 @@ use dcr_node::SiteNode;
 
 /// Reads what a site is asked over the link and answers it, one after the other, until the link ends or fails, or something
 /// comes that the site may not be asked, which ends the talk with nothing answered to it. Nothing is written but what is asked
-/// for, in the order in which it was asked. Takes no memory.
-pub fn answer_asks<L: Link>(node: &mut SiteNode, link: &mut L) -> AnswerEnd
-    ensures { (G : Rules) (S : List Bool) (M : Marks) → StandsAt G S M node.old.site
-        → Talks G S node.old (L.has_ended link.new) (L.gives link.old) (L.gives link.new) (L.takes link.old) (L.takes link.new) result }
+/// for, in the order in which it was asked. Takes no memory. The node is let go at the end: another link begins with another one.
+pub fn answer_asks<L: Link>(node: SiteNode, link: &mut L) -> AnswerEnd
+    ensures { (G : Rules) (S : List Bool) (M : Marks) → StandsAt G S M node.site
+        → Talks G S node (L.has_ended link.new) (L.gives link.old) (L.gives link.new) (L.takes link.old) (L.takes link.new) result }
 {
+    let mut node = node;
     for _count in 0..u64::MAX {
-        match answer_next(node, link) {
+        match answer_next(&mut node, link) {
             None => {}
             Some(end) => return end,
         }

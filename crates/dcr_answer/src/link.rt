@@ -15,16 +15,16 @@ use dcr_set::SiteId;
 /// Answers over a link as the site of this number in the case with this digest, whose node this is: reads a challenge, sends
 /// the hello to it, by the key where there is one, and then answers what it is asked, as `answer_asks` does, until the link ends
 /// or fails, or something comes that is none of that. Nothing is written before the challenge has come whole, and nothing that
-/// wasn't asked for. Takes no memory.
+/// wasn't asked for. Takes no memory. The node is let go at the end.
 pub fn answer_link<L: Link>(
-    node: &mut SiteNode,
+    node: SiteNode,
     site: SiteId,
     digest: &[u8; 32],
     key: &Option<Key>,
     link: &mut L,
 ) -> AnswerEnd
-    ensures { (G : Rules) (S : List Bool) (M : Marks) → StandsAt G S M node.old.site
-        → AnswersBy G S node.old site digest.now key.now (L.has_ended link.new) (L.gives link.old) (L.gives link.new) (L.takes link.old) (L.takes link.new) result }
+    ensures { (G : Rules) (S : List Bool) (M : Marks) → StandsAt G S M node.site
+        → AnswersBy G S node site digest.now key.now (L.has_ended link.new) (L.gives link.old) (L.gives link.new) (L.takes link.old) (L.takes link.new) result }
 {
     match read_challenge(link) {
         Err(end) => end,

@@ -38,8 +38,8 @@ line_reads (write_starved same stopped equal) is = let wrong : NoMemory ≡ Read
 text_reads : {P L R : Type 0} (tells : Porters P L R) (text : List ℕ) (key : Option (List ℕ)) (had took : Side) (before after : P) (status : Status)
     → AnswersText tells text key had took before after status → status ≢ ReadFault
 text_reads tells text key had took before after status (starved it same) is = let wrong : NoMemory ≡ ReadFault = sym it.0 ∙ is in cc
-text_reads tells text key had took before after status (not_part none wrote same) is = line_reads wrote is
-text_reads tells text key had took before after status (not_key part none wrote same) is = line_reads wrote is
+text_reads tells text key had took before after status (not_part none kept wrote same) is = line_reads wrote is
+text_reads tells text key had took before after status (not_key part none kept wrote same) is = line_reads wrote is
 text_reads tells text key had took before after status (served part by given links silent (inl done)) is = let wrong : Done ≡ ReadFault = sym done.0 ∙ is in cc
 text_reads tells text key had took before after status (served part by given links silent (inr failed)) is = let wrong : DoorFault ≡ ReadFault = sym failed ∙ is in cc
 

@@ -5,7 +5,7 @@ use Rattle.dcr_base.specs.Side.{Adds, Side}
 use Rattle.dcr_base.specs.declared.reading.ReadStop.{ReadStop}
 use Rattle.dcr_base.specs.declared.reading.ReadStop.TheVariants.{TooLong}
 use Rattle.dcr_base.specs.declared.status.Status.{Status}
-use Rattle.dcr_base.specs.declared.status.Status.TheVariants.{Done, Usage, Refused, DoorFault}
+use Rattle.dcr_base.specs.declared.status.Status.TheVariants.{Done, Usage, Refused, DoorFault, NoMemory}
 use Rattle.dcr_greet.specs.KeyText.{IsKeyText}
 use Rattle.dcr_part.specs.Whole.{Whole, IsWhole, part_text}
 use Rattle.dcr_porter.specs.Porter.{Porters}
@@ -39,12 +39,12 @@ abbrev pub IsPartText : List ℕ → Type 0
 IsPartText text = (W : Whole) × IsWhole W × (text ≡ part_text W)
 
 -- What a text is answered: as a part by the links that are served, as every case serves them whose part it is, until the porter
--- is shut or has failed; else by a refusal, with the porter as it was.
+-- is shut or has failed; else by a refusal, with the porter as it was. A line wants no memory.
 pub data AnswersText {P L R : Type 0} (tells : Porters P L R) (text : List ℕ) (key : Option (List ℕ)) (had took : Side) (before after : P) (status : Status) : Type 0 where
   starved : IsStarved status had took → after ≡ before → AnswersText tells text key had took before after status
-  not_part : (IsPartText text → ⊥) → Wrote Refused (codes "refused 19 not-part\n") status had took → after ≡ before
+  not_part : (IsPartText text → ⊥) → status ≢ NoMemory → Wrote Refused (codes "refused 19 not-part\n") status had took → after ≡ before
       → AnswersText tells text key had took before after status
-  not_key : IsPartText text → GivesNoKey key → Wrote Refused (codes "refused 20 keys 1\n") status had took → after ≡ before
+  not_key : IsPartText text → GivesNoKey key → status ≢ NoMemory → Wrote Refused (codes "refused 20 keys 1\n") status had took → after ≡ before
       → AnswersText tells text key had took before after status
   served : IsPartText text → (by : Option (List ℕ)) → GivesKey key by → ((W : Whole) → IsWhole W → text ≡ part_text W → HasServedLinks tells W by before after)
       → Adds [] had took → ((status ≡ Done) × tells.is_shut after) ⊎ (status ≡ DoorFault) → AnswersText tells text key had took before after status
@@ -53,7 +53,7 @@ pub data AnswersText {P L R : Type 0} (tells : Porters P L R) (text : List ℕ) 
 
 -- What `site` answers with these words behind it, where `left` is what the input had left at entry.
 pub data AnswersSite {A P L R : Type 0} (tells : Porters P L R) (words : List A) (key : Option (List ℕ)) (left : Option (List ℕ)) (has_ended : Type 0) (had took : Side) (before after : P) (status : Status) : Type 0 where
-  usage : words ≢ [] → Wrote Usage (codes "usage\n") status had took → after ≡ before → AnswersSite tells words key left has_ended had took before after status
+  usage : words ≢ [] → status ≢ NoMemory → Wrote Usage (codes "usage\n") status had took → after ≡ before → AnswersSite tells words key left has_ended had took before after status
   unread : words ≡ [] → (stop : ReadStop) → (stop ≡ TooLong → IfSome left (λ text. most_part < length text)) → IsUnread stop status had took → after ≡ before
       → AnswersSite tells words key left has_ended had took before after status
   read : words ≡ [] → (text : List ℕ) → WereLeft left text → length text ≤ most_part → has_ended → AnswersText tells text key had took before after status

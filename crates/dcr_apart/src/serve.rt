@@ -111,9 +111,9 @@ fn answer<L: Link>(part: Part, key: &Option<Key>, link: L) -> (L::Rest, bool)
         names: _names,
         site,
     } = part;
-    let mut node = SiteNode::new(head.site, site);
+    let node = SiteNode::new(head.site, site);
     let mut link = CountingLink::new(link);
-    let _end = answer_link(&mut node, head.site, &head.digest, key, &mut link);
+    let _end = answer_link(node, head.site, &head.digest, key, &mut link);
     let has_answered = link.has_answered();
     (link.finish(), has_answered)
 }

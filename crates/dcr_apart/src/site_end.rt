@@ -35,9 +35,10 @@ pub struct SiteEnd<P: Porter> {
 /// that is none are refused by one line that tells why, in this order. Nothing else is written to the output.
 ///
 /// `Done` comes where the porter is shut, `DoorFault` exactly where it has failed (`porter`), `ReadFault` exactly where a read
-/// failed (`input`), and `WriteFault` exactly where a write failed (`output`). With `NoMemory` nothing was written, and the porter
+/// failed (`input`), and `WriteFault` exactly where a write failed (`output`), which then has a front of the line. With `NoMemory` nothing was written, and the porter
 /// was asked nothing; once links are served it waits for memory before it asks for the next one. Over sockets a porter is never
-/// shut, so that the process ends by a signal.
+/// shut, so that the process ends by a signal. The porter is asked for links from the first call on and isn't told to begin: one
+/// that listens has begun before.
 pub fn site<I: Source, O: Sink, P: Porter, R: Wait + Clock>(
     rt: &R,
     alloc: Global,

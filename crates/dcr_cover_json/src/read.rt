@@ -41,7 +41,7 @@ pub fn read_cover_text(
     let Some(value) = read_json(alloc, bytes)? else {
         return Ok(None);
     };
-    let Some(cover) = read_value(alloc, nested, graph, &value)? else {
+    let Some(cover) = read_value(alloc, nested, graph, value)? else {
         return Ok(None);
     };
     if !is_cover_text(alloc, graph, &cover, bytes)? {
@@ -60,21 +60,21 @@ fn see_names(nodes: &[Node])
 }
 
 // The cover that a JSON value writes. None exactly where one of the facts of a cover fails. Memory is not wanted where it
-// is not of the right shape.
+// is not of the right shape. The value is let go here, before the text is written again.
 fn read_value(
     alloc: Global,
     nested: &Nested,
     graph: &Graph,
-    value: &Value,
+    value: Value,
 ) -> Result<Option<Cover>, NoMemory>
-    requires size { size (view value.now) < 2 ^ 32 }
+    requires size { size (view value) < 2 ^ 32 }
     requires flat { IsFlattening nested.now graph.now }
-    ensures fails { IfOk result (λ found. found ≡ None → first (cover_facts nested.now (Some (view value.now))) ≢ None) }
-    ensures cover { IfOk result (λ found. IfSome found (λ cover. cover ≡ cover_in nested.now (sites_in (Some (view value.now))))) }
+    ensures fails { IfOk result (λ found. found ≡ None → first (cover_facts nested.now (Some (view value))) ≢ None) }
+    ensures cover { IfOk result (λ found. IfSome found (λ cover. cover ≡ cover_in nested.now (sites_in (Some (view value))))) }
     ensures accepted { IfOk result (λ found. IfSome found (λ cover. IsAcceptedCover nested.now cover)) }
-    ensures misshapen { IfSome (first (shape_facts (Some (view value.now)))) (λ _. result ≡ Ok None) }
+    ensures misshapen { IfSome (first (shape_facts (Some (view value)))) (λ _. result ≡ Ok None) }
 {
-    match try_value(alloc, nested, graph, value) {
+    match try_value(alloc, nested, graph, &value) {
         Ok(cover) => Ok(Some(cover)),
         Err(CaseStop::NoMemory) => Err(NoMemory),
         Err(_) => Ok(None),

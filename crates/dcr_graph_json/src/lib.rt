@@ -23,4 +23,4 @@ pub use kind::kind_word;
 pub use laws::graphs_are_read_back;
 pub use read::read_graph_text;
 pub use text::{graph_text, graph_value};
-pub use written::{Built, GraphText};
+pub use written::{Built, Flattened, GraphText};

@@ -9,7 +9,7 @@ ghost use Rattle.dcr_graph_json.specs.Build.{nest_in};
 ghost use Rattle.dcr_graph_json.specs.Shape.{shape_facts, written_in};
 ghost use Rattle.dcr_graph_json.specs.Text.{graph_text as text_of};
 
-use crate::{Built, GraphText, graph_text};
+use crate::{Built, Flattened, GraphText, graph_text};
 use dcr_format::{CaseStop, MAX_BYTES, read_json};
 use dcr_nest::{Nested, Version};
 use dcr_set::NoMemory;
@@ -23,7 +23,7 @@ pub fn read_graph_text(
     alloc: Global,
     bytes: &[u8],
     version: Version,
-) -> Result<Option<Built>, NoMemory>
+) -> Result<Option<Flattened>, NoMemory>
     ensures found { IfOk result (λ found. IsGraphIn version bytes.now (option_map (λ built. built.nested) found)) }
     ensures flat { IfOk result (λ found. IfSome found (λ built. IsFlattening built.nested built.graph)) }
     ensures too_long { MAX_BYTES < length bytes.now → result ≡ Ok None }
@@ -34,7 +34,7 @@ pub fn read_graph_text(
     let Some(value) = read_json(alloc, bytes)? else {
         return Ok(None);
     };
-    let Some(built) = read_value(alloc, version, &value)? else {
+    let Some(built) = read_value(alloc, version, value)? else {
         return Ok(None);
     };
     if !is_graph_text(alloc, &built.nested, bytes)? {
@@ -44,20 +44,33 @@ pub fn read_graph_text(
 }
 
 // The graph that a JSON value writes. None exactly where one of the facts of a graph fails. Memory is not wanted where it
-// is not of the right shape.
-fn read_value(alloc: Global, version: Version, value: &Value) -> Result<Option<Built>, NoMemory>
-    requires { size (view value.now) < 2 ^ 32 }
-    ensures fails { IfOk result (λ found. found ≡ None → first (graph_facts version (Some (view value.now))) ≢ None) }
-    ensures nested { IfOk result (λ found. IfSome found (λ built. built.nested ≡ nest_in (written_in version (Some (view value.now))))) }
+// is not of the right shape. The value is let go here, before the text is written again.
+fn read_value(alloc: Global, version: Version, value: Value) -> Result<Option<Flattened>, NoMemory>
+    requires { size (view value) < 2 ^ 32 }
+    ensures fails { IfOk result (λ found. found ≡ None → first (graph_facts version (Some (view value))) ≢ None) }
+    ensures nested { IfOk result (λ found. IfSome found (λ built. built.nested ≡ nest_in (written_in version (Some (view value))))) }
     ensures flat { IfOk result (λ found. IfSome found (λ built. IsFlattening built.nested built.graph)) }
     ensures accepted { IfOk result (λ found. IfSome found (λ built. IsAcceptedGraph version built.nested)) }
-    ensures misshapen { IfSome (first (shape_facts version (Some (view value.now)))) (λ _. result ≡ Ok None) }
+    ensures misshapen { IfSome (first (shape_facts version (Some (view value)))) (λ _. result ≡ Ok None) }
 {
-    match try_value(alloc, version, value) {
-        Ok(built) => Ok(Some(built)),
+    match try_value(alloc, version, &value) {
+        Ok(built) => Ok(Some(flattened(built))),
         Err(CaseStop::NoMemory) => Err(NoMemory),
         Err(_) => Ok(None),
     }
+}
+
+// The graph without its opening, which a canonical text doesn't have.
+fn flattened(built: Built) -> Flattened
+    ensures nested { result.nested ≡ built.nested }
+    ensures graph { result.graph ≡ built.graph }
+{
+    let Built {
+        nested,
+        graph,
+        opening: _opening,
+    } = built;
+    Flattened { nested, graph }
 }
 
 // The same, or the first refusal.

@@ -37,6 +37,13 @@ pub struct Built {
     pub opening: Marking,
 }
 
+/// A nested graph, and its flattening.
+#[derive(Drop)]
+pub struct Flattened {
+    pub nested: Nested,
+    pub graph: Graph,
+}
+
 impl<'v> GraphText<'v> {
     ghost use Rattle.std.specs.Prelude.{◌≡◌, ◌<◌, ◌≤◌, ◌^◌, length, None, option_map, IfOk};
     ghost use Rattle.std.specs.Option.{ForSome};

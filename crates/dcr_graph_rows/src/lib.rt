@@ -7,6 +7,8 @@ mod asked;
 #[cfg(test)]
 mod build;
 #[cfg(test)]
+mod drawn;
+#[cfg(test)]
 mod engines;
 #[cfg(test)]
 mod graph;

@@ -19,6 +19,6 @@ SitesAreLetIn = (who : Greeter) (nonce : List ℕ) (site : ℕ) (key : Option (L
 abbrev pub GreetAsOne : Type 0
 GreetAsOne = (who : Greeter) (c : Challenge) (bytes : List ℕ) (i j : ℕ) → i < 2 ^ 16 → j < 2 ^ 16 → Greets who c bytes i → Greets who c bytes j → i ≡ j
 
--- a text that has a wrong line is no text of keys, and has one first wrong line
+-- a text that has a wrong line is no text of keys
 abbrev pub WrongLinesAreWrong : Type 0
 WrongLinesAreWrong = (sites : List (List ℕ)) (text : List ℕ) (line : ℕ) (keys : List (List ℕ)) → IsWrongLine sites text line → IsKeysText sites text keys → ⊥

@@ -1,5 +1,5 @@
 -- What porters make of the answers that they get.
-use Rattle.std.proofs.Common.{◌≡◌, ◌⊎◌, ℕ, Bool, true, false, inl, inr, is_some, Option, Some, None, Result, Ok, Err, refl, sym, subst}
+use Rattle.std.proofs.Common.{◌≡◌, ◌⊎◌, ℕ, true, false, inl, inr, is_some, Option, Some, None, Result, Ok, Err, refl, sym, subst}
 use Rattle.std.specs.Prelude.{IsErr, IsOk}
 use Rattle.std.proofs.lemmas.Bool.{false≢true}
 use Rattle.std.specs.declared.io.Error.{Error}
@@ -12,7 +12,7 @@ use Rattle.dcr_porter.specs.declared.brought.Brought.TheVariants.{Link, Nobody, 
 use Rattle.dcr_net.specs.SiteLink.{site_links, IsLinkOrFailure, SiteLinkValue}
 use Rattle.dcr_net.specs.DialPorter.{Dialed, Dials}
 use Rattle.dcr_net.specs.declared.dial_porter.DialPorter.{DialPorter}
-use Rattle.dcr_net.specs.ListenPorter.{IsBrought, Tries, tried, unbegun, Begins, Listened, Listens, began, listened, no_port, waits}
+use Rattle.dcr_net.specs.ListenPorter.{IsBrought, Tries, tried, unbegun, Begins, Listened, Listens, began, no_port, waits}
 use Rattle.dcr_net.specs.declared.listen_porter.ListenPorter.{ListenPorter}
 
 -- ---- one try

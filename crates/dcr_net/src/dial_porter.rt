@@ -1,9 +1,9 @@
-ghost use Rattle.std.specs.Prelude.{◌≡◌, ◌+◌, Ok, None, IfOk, OnErr};
+ghost use Rattle.std.specs.Prelude.{◌≡◌, ◌+◌, Ok, None, IfOk, IsOk, OnErr};
 ghost use Rattle.std.specs.Io.Iter.{u64_saturate};
 ghost use Rattle.dcr_base.specs.Count.{CountsFault};
 ghost use Rattle.dcr_net.specs.SiteLink.{site_links, IsLinkOrFailure};
 ghost use Rattle.dcr_net.specs.DialPorter.{Dialed, told_by_dialing};
-ghost use Rattle.dcr_porter.specs.Porter.{BringsNext, IsFresh};
+ghost use Rattle.dcr_porter.specs.Porter.{BringsNext, IsFresh, IsSame};
 ghost use Rattle.dcr_porter.specs.declared.brought.Brought.TheVariants.{Shut};
 
 use crate::local::local;
@@ -74,8 +74,13 @@ impl<R: Dial> Porter for DialPorter<R> {
 
     ghost tells = { told_by_dialing };
 
-    /// Has nothing to do.
-    fn begin(&mut self) -> Result<(), Failed> {
+    /// Has nothing to do, and asks nothing.
+    fn begin(&mut self) -> Result<(), Failed>
+        ensures same { IsSame told_by_dialing self.old self.new }
+        ensures counts { CountsFault result (failed_calls self.old) (failed_calls self.new) }
+        ensures stays { self.new ≡ self.old }
+        ensures never_fails { IsOk result }
+    {
         Ok(())
     }
 
@@ -102,14 +107,22 @@ impl<R: Dial> Porter for DialPorter<R> {
         brought
     }
 
-    /// Drops it.
-    fn take_back(&mut self, _number: u64, _rest: SiteRest) {}
+    /// Drops it, and asks nothing.
+    fn take_back(&mut self, _number: u64, rest: SiteRest)
+        ensures stays { self.new ≡ self.old }
+    {
+        let _dropped = rest;
+    }
 
     /// Does nothing.
-    fn seated(&mut self, _number: u64, _site: SiteId) {}
+    fn seated(&mut self, _number: u64, _site: SiteId)
+        ensures stays { self.new ≡ self.old }
+    {}
 
     /// Does nothing.
-    fn waits_for(&mut self, _site: SiteId) {}
+    fn waits_for(&mut self, _site: SiteId)
+        ensures stays { self.new ≡ self.old }
+    {}
 
     ghost each_is = { refl };
 

@@ -182,14 +182,22 @@ impl<R: Listen<Listener: Unwaiting>> Porter for ListenPorter<R> {
         brought
     }
 
-    /// Drops it.
-    fn take_back(&mut self, _number: u64, _rest: SiteRest) {}
+    /// Drops it, and asks nothing.
+    fn take_back(&mut self, _number: u64, rest: SiteRest)
+        ensures stays { self.new ≡ self.old }
+    {
+        let _dropped = rest;
+    }
 
     /// Does nothing.
-    fn seated(&mut self, _number: u64, _site: SiteId) {}
+    fn seated(&mut self, _number: u64, _site: SiteId)
+        ensures stays { self.new ≡ self.old }
+    {}
 
     /// Does nothing.
-    fn waits_for(&mut self, _site: SiteId) {}
+    fn waits_for(&mut self, _site: SiteId)
+        ensures stays { self.new ≡ self.old }
+    {}
 
     ghost each_is = { refl };
 

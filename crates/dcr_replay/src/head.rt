@@ -7,7 +7,7 @@ ghost use Rattle.dcr_replay.specs.HeadLines.{first_text, first_behind, version_a
 use crate::lines::{Lines, behind};
 use dcr_cover_json::read_cover_text;
 use dcr_graph::{Graph, Marking};
-use dcr_graph_json::{Built, read_graph_text};
+use dcr_graph_json::{Flattened, read_graph_text};
 use dcr_line::{Directory, read_mark};
 use dcr_nest::{Nested, Version};
 use dcr_proj::Cover;
@@ -28,13 +28,13 @@ pub(crate) fn read_version(lines: &Lines<'_>) -> Option<Version>
     None
 }
 
-/// The graph of this version that the first line tells, with its flattening. None exactly where it tells none that is accepted. A line that
-/// tells no text, or a longer one than each canonical text, is refused without memory.
+/// The graph of this version that the first line tells, with its flattening. None exactly where it tells none that is
+/// accepted. A line that tells no text, or a longer one than each canonical text, is refused without memory.
 pub(crate) fn read_graph(
     alloc: Global,
     lines: &Lines<'_>,
     version: Version,
-) -> Result<Option<Built>, NoMemory>
+) -> Result<Option<Flattened>, NoMemory>
     ensures found { IfOk result (λ found. IsGraphAt version lines.now (option_map (λ built. built.nested) found)) }
     ensures flat { IfOk result (λ found. IfSome found (λ built. IsFlattening built.nested built.graph)) }
     ensures no_text { TellsNoText (codes "graph ") lines.now → result ≡ Ok None }

@@ -19,8 +19,8 @@ use Rattle.dcr_journal.specs.declared.call.Entry.{Entry}
 use Rattle.dcr_journal.specs.declared.closed.Closed.{Closed}
 use Rattle.dcr_line.specs.Fits.{FitsEntry}
 use Rattle.dcr_line.specs.Line.{entry_text}
-use Rattle.dcr_report.specs.FitsClosed.{FitsCase, FitsReport}
-use Rattle.dcr_report.specs.Report.{line, lines_text, head_lines, entry_lines, site_text, site_lines, verdict_text, end_lines, report_lines, report_text, told_lines}
+use Rattle.dcr_report.specs.FitsClosed.{FitsCase, FitsReport, FitsTold}
+use Rattle.dcr_report.specs.Report.{line, lines_text, head_lines, entry_lines, site_text, site_lines, verdict_text, end_lines, report_lines, report_text, told_lines, told_text}
 use Rattle.dcr_report.proofs.LegalLemmas.{legal_entries, marks_fit, waits-below}
 
 -- a text is added, and its line end
@@ -90,21 +90,24 @@ are_parts N C names sites closed named many =
       ending = λ place e. last place 1 e;
     }
 
--- what a closed run tells is its report
+-- the atoms have the names of their nodes
+pub told_by_names : (N : Nest) (graph : Flat) (C : Owners) (closed : Closed) → IsFlattening N graph → lines_text (told_lines N C graph.names closed) ≡ told_text N C closed
+told_by_names N graph C closed flat = ap (λ (texts : List (List ℕ)). lines_text (told_lines N C texts closed)) flat.names
+
+-- what a closed run tells is its report, where the marks and the verdict are those after its entries
 pub told_is_report : (N : Nest) (graph : Flat) (C : Owners) (closed : Closed) → IsFlattening N graph
     → closed.marks ≡ marks_at (rules_of graph) C.owned (after (rules_of graph) closed.opening closed.history.entries)
     → closed.waits ≡ waits (length graph.names) (after (rules_of graph) closed.opening closed.history.entries)
-    → lines_text (told_lines N C graph.names closed) ≡ report_text N C closed.opening closed.history.entries
+    → told_text N C closed ≡ report_text N C closed.opening closed.history.entries
 unfolding report_text
 told_is_report N graph C closed flat marks waited =
     let M = closed.opening in
     let J = closed.history.entries in
     let names = of_atoms (parents_of N.nodes) (names_of N.nodes) in
-    let to_names = ap (λ (texts : List (List ℕ)). lines_text (report_lines N C texts M J closed.marks closed.waits)) flat.names in
     let to_marks = ap (λ (ms : List SiteMark). lines_text (report_lines N C names M J ms closed.waits)) (marks ∙ ap (λ (G : Rules). marks_at G C.owned (after G M J)) flat.related) in
     let last : Marking = after (flat_relation N) M J in
     let to_waits = ap (λ w. lines_text (report_lines N C names M J (marks_at (flat_relation N) C.owned last) w)) (waited ∙ ap (λ (G : Rules). waits G.atoms (after G M J)) flat.related) in
-    to_names ∙ to_marks ∙ to_waits
+    to_marks ∙ to_waits
 
 -- a case whose sets have room for its atoms has lines
 pub cover_fits : (C : Owners) (n : ℕ) (M : Marking) → IsCover C → All (λ (set : Set). length set ≡ n) C.owned → HasRoom n M → FitsCase n C M
@@ -113,27 +116,38 @@ cover_fits C n M cover rooms opening = record {
   marks = record { executed = opening.executed; pending = opening.pending; included = opening.included };
 }
 
+-- what has lines of a report has them over this cover
+pub told_fits : (n : ℕ) (C : Owners) (sites : List (List ℕ)) (closed : Closed) → IsCover C → sites ≡ C.names → All (λ (set : Set). length set ≡ n) C.owned
+    → FitsTold n C closed → FitsReport n C sites closed
+told_fits n C sites closed cover named rooms told =
+    let as_many : length sites ≡ length C.names = ap length named in
+    let most = cover.most_sites in
+    record {
+      begins = cover_fits C n closed.opening cover rooms told.opening;
+      entries = subst (λ (m : ℕ). All (FitsEntry m n) closed.history.entries) cover.as_many told.entries;
+      named = named;
+      few_sites = omega arith;
+      as_many_marks = told.as_many_marks ∙ cover.as_many ∙ sym as_many;
+      marks = told.marks;
+      waits = told.waits;
+    }
+
 -- a legal run that is closed with the marks and the verdict after it has lines
-pub legal_fits : (graph : Flat) (C : Owners) (sites : List (List ℕ)) (closed : Closed) → IsCover C → sites ≡ C.names → All (λ (set : Set). length set ≡ length graph.names) C.owned
-    → HasRoom (length graph.names) closed.opening
+pub legal_told : (graph : Flat) (C : Owners) (closed : Closed) → HasRoom (length graph.names) closed.opening
     → IsLegal (rules_of graph) C.owned closed.opening closed.history.entries
     → closed.marks ≡ marks_at (rules_of graph) C.owned (after (rules_of graph) closed.opening closed.history.entries)
     → closed.waits ≡ waits (length graph.names) (after (rules_of graph) closed.opening closed.history.entries)
-    → FitsReport (length graph.names) C sites closed
-legal_fits graph C sites closed cover named rooms opening legal marks waited =
+    → FitsTold (length graph.names) C closed
+legal_told graph C closed opening legal marks waited =
     let G = rules_of graph in
     let n = length graph.names in
     let last : Marking = after G closed.opening closed.history.entries in
     let MarkFits : SiteMark → Type 0 = λ mark. FitsAtoms n mark.executed mark.pending mark.included in
     let each : All MarkFits (marks_at G C.owned last) = All-map MarkFits (λ (S : Set). project G S last) C.owned (λ k d within. marks_fit G _ last) in
-    let as_many : length sites ≡ length C.names = ap length named in
-    let most = cover.most_sites in
     record {
-      begins = cover_fits C n closed.opening cover rooms opening;
-      entries = subst (λ (m : ℕ). All (FitsEntry m n) closed.history.entries) cover.as_many (legal_entries G C.owned closed.opening closed.history.entries legal);
-      named = named;
-      few_sites = omega arith;
-      as_many_marks = ap length marks ∙ length-map C.owned (λ (S : Set). project G S last) ∙ cover.as_many ∙ sym as_many;
+      opening = opening;
+      entries = legal_entries G C.owned closed.opening closed.history.entries legal;
+      as_many_marks = ap length marks ∙ length-map C.owned (λ (S : Set). project G S last);
       marks = subst (All MarkFits) (sym marks) each;
       waits = λ e told. waits-below n last e (sym waited ∙ told);
     }

@@ -87,8 +87,11 @@ report_text N C M J =
     let last : Marking = after (flat_relation N) M J in
     lines_text (report_lines N C (of_atoms (parents_of N.nodes) (names_of N.nodes)) M J (marks_at (flat_relation N) C.owned last) (waits (flat_relation N).atoms last))
 
--- ---- for private clauses
-
--- the report of what a closed run tells, where the atoms have these names
+-- the lines of what a closed run tells, where the atoms have these names
 abbrev pub told_lines : Nest → Owners → List (List ℕ) → Closed → List (List ℕ)
 told_lines N C names closed = report_lines N C names closed.opening closed.history.entries closed.marks closed.waits
+
+-- What a closed run tells, in the lines of a report: its own marks and its own verdict. It is `report_text` where these are
+-- those of the marking after its entries.
+abbrev pub told_text : Nest → Owners → Closed → List ℕ
+told_text N C closed = lines_text (told_lines N C (of_atoms (parents_of N.nodes) (names_of N.nodes)) closed)

@@ -11,6 +11,6 @@ mod write;
 mod writer;
 
 pub use digest::case_digest;
-pub use report::{ReportStop, write_report, write_report_by_threads};
+pub use report::{ReportStop, write_report, write_report_by_threads, write_told_by_threads};
 pub use write::{write_end, write_site, write_verdict};
 pub use writer::{Lines, write_lines};

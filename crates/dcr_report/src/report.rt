@@ -6,7 +6,8 @@ ghost use Rattle.dcr_graph.specs.GraphValue.{rules_of};
 ghost use Rattle.dcr_graph.specs.Projection.{HasRoom};
 ghost use Rattle.dcr_nest.specs.FlatRelation.{IsFlattening};
 ghost use Rattle.dcr_journal.specs.Run.{IsLegal, after, marks_at};
-ghost use Rattle.dcr_report.specs.Report.{report_text};
+ghost use Rattle.dcr_report.specs.FitsClosed.{FitsTold};
+ghost use Rattle.dcr_report.specs.Report.{report_text, told_text};
 ghost use Rattle.dcr_report.specs.Stop.{message_of};
 ghost use Rattle.dcr_report.specs.Writing.{CountsStop};
 
@@ -127,6 +128,34 @@ pub fn write_report_by_threads<O: Sink, R: Threads + Sync>(
         (after (rules_of graph.now) closed.now.opening closed.now.history.entries) }
     ensures all { OnOk result (Adds (report_text nested.now cover.now closed.now.opening closed.now.history.entries) (O.takes sink.old) (O.takes sink.new)) }
     ensures not_all { OnErr result (Stopped (report_text nested.now cover.now closed.now.opening closed.now.history.entries) (O.takes sink.old) (O.takes sink.new)) }
+    ensures counts { IfErr result (λ stop. CountsStop stop (O.takes sink.old).faults (O.takes sink.new).faults) }
+{
+    write_told_by_threads(rt, alloc, nested, graph, cover, closed, sink)
+}
+
+/// Writes what a closed run tells, in the lines of a report: its own marks and its own verdict, whether or not the graph
+/// allows its history. Where it does, and marks and verdict are those after the history, that is the report. Where it is long,
+/// its lines are made by as many threads as there are processors, 16 at most, and beside its head 16 MiB of them are held at most.
+///
+/// The graph is the flattening of the nested graph, and the cover is one of its atoms. Each entry names sites
+/// and atoms that there are, there are marks for each site, and these and the verdict name atoms.
+/// `WriteFault` comes exactly where a write failed; the sink then has less than this text, from its front.
+/// `NoMemory` comes where memory for the texts of the graph and the cover, or for the lines held, could
+/// not be had; the sink then has less than this text too, from its front.
+pub fn write_told_by_threads<O: Sink, R: Threads + Sync>(
+    rt: &R,
+    alloc: Global,
+    nested: &Nested,
+    graph: &Graph,
+    cover: &Cover,
+    closed: &Closed,
+    sink: &mut O,
+) -> Result<(), ReportStop>
+    requires flattening { IsFlattening nested.now graph.now }
+    requires rooms { All (λ set. length set ≡ length graph.now.names) cover.now.owned }
+    requires told { FitsTold (length graph.now.names) cover.now closed.now }
+    ensures all { OnOk result (Adds (told_text nested.now cover.now closed.now) (O.takes sink.old) (O.takes sink.new)) }
+    ensures not_all { OnErr result (Stopped (told_text nested.now cover.now closed.now) (O.takes sink.old) (O.takes sink.new)) }
     ensures counts { IfErr result (λ stop. CountsStop stop (O.takes sink.old).faults (O.takes sink.new).faults) }
 {
     let lines = ReportLines {

@@ -4,7 +4,7 @@ use Rattle.serde_json.specs.View.{view}
 use Rattle.dcr_graph_json.specs.Accepted.{IsAcceptedGraph}
 use Rattle.dcr_graph_json.specs.Build.{nest_in}
 use Rattle.dcr_graph_json.specs.Shape.{written_in}
-use Rattle.dcr_graph_json.specs.declared.written.Built.{Built}
+use Rattle.dcr_graph_json.specs.declared.written.Flattened.{Flattened}
 use Rattle.dcr_graph_json.specs.Text.{graph_text}
 use Rattle.dcr_graph_json.proofs.ReadLemmas.{none_json, none_long, none_text, none_value, told_no, told_yes}
 use Rattle.dcr_graph_json.proofs.read.read_graph_text.Goals as goal
@@ -22,10 +22,10 @@ returns-in_default-2-clause-found c =
 pub returns-then-not-branch-clause-found : goal.returns-then-not-branch-clause-found
 returns-then-not-branch-clause-found c =
     let M = c.in-Some-2.built.nested in
-    none_text c.args.version c.args.bytes.now (view c.in-Some.value) M (ap (option_map view) (sym c.in-Some.is) ∙ c.in_ok-value.ensures.json) (let P : Option Built → Type 0 = λ found. IfSome found (λ (built : Built). built.nested ≡ nest_in (written_in c.args.version (Some (view c.in-Some.value)))) in subst P c.in-Some-2.is c.in_ok-built.ensures.nested)
+    none_text c.args.version c.args.bytes.now (view c.in-Some.value) M (ap (option_map view) (sym c.in-Some.is) ∙ c.in_ok-value.ensures.json) (let P : Option Flattened → Type 0 = λ found. IfSome found (λ (built : Flattened). built.nested ≡ nest_in (written_in c.args.version (Some (view c.in-Some.value)))) in subst P c.in-Some-2.is c.in_ok-built.ensures.nested)
     (told_no (c.args.bytes.now ≡ graph_text M) (c.args.bytes.now ≢ graph_text M) c.in_ok-is_graph_text.field-0 c.in_ok-is_graph_text.ensures c.if-not-branch.true)
 
 pub returns-clause-found : goal.returns-clause-found
 returns-clause-found c =
     let M = c.in-Some-2.built.nested in
-    (let P : Option Built → Type 0 = λ found. IfSome found (λ (built : Built). IsAcceptedGraph c.args.version built.nested) in subst P c.in-Some-2.is c.in_ok-built.ensures.accepted, told_yes (c.args.bytes.now ≡ graph_text M) (c.args.bytes.now ≢ graph_text M) c.in_ok-is_graph_text.field-0 c.in_ok-is_graph_text.ensures c.if-not-branch.false)
+    (let P : Option Flattened → Type 0 = λ found. IfSome found (λ (built : Flattened). IsAcceptedGraph c.args.version built.nested) in subst P c.in-Some-2.is c.in_ok-built.ensures.accepted, told_yes (c.args.bytes.now ≡ graph_text M) (c.args.bytes.now ≢ graph_text M) c.in_ok-is_graph_text.field-0 c.in_ok-is_graph_text.ensures c.if-not-branch.false)

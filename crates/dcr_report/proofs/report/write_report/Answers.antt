@@ -1,17 +1,18 @@
-use Rattle.std.proofs.Common.{subst}
+use Rattle.std.proofs.Common.{subst, ◌∙◌}
 use Rattle.std.proofs.lemmas.Result.{on_ok_weaker, on_err_weaker}
 use Rattle.dcr_base.specs.Side.{Adds, Stopped}
-use Rattle.dcr_report.proofs.ReportLemmas.{legal_fits, told_is_report}
+use Rattle.dcr_report.proofs.ReportLemmas.{legal_told, told_fits, told_by_names, told_is_report}
 use Rattle.dcr_report.proofs.report.write_report.Goals as goal
 
 pub write_lines-requires : goal.write_lines-requires
 write_lines-requires g c =
-    legal_fits c.args.graph.now c.args.cover.now c.site_names.result.now c.args.closed.now c.site_names.ensures.cover c.site_names.ensures.names
-    c.requires.rooms c.requires.opening c.requires.legal c.requires.marks c.requires.verdict
+    told_fits _ c.args.cover.now c.site_names.result.now c.args.closed.now c.site_names.ensures.cover c.site_names.ensures.names c.requires.rooms
+    (legal_told c.args.graph.now c.args.cover.now c.args.closed.now c.requires.opening c.requires.legal c.requires.marks c.requires.verdict)
 
 pub returns : goal.returns
 returns g c =
-    let same = told_is_report c.args.nested.now c.args.graph.now c.args.cover.now c.args.closed.now c.requires.flattening c.requires.marks c.requires.verdict in
+    let same = told_by_names c.args.nested.now c.args.graph.now c.args.cover.now c.args.closed.now c.requires.flattening
+    ∙ told_is_report c.args.nested.now c.args.graph.now c.args.cover.now c.args.closed.now c.requires.flattening c.requires.marks c.requires.verdict in
     let old = g.O.Sink.takes c.args.sink.now in
     let new = g.O.Sink.takes c.write_lines.new.sink in
     record {

@@ -1,4 +1,4 @@
-use Rattle.std.proofs.Common.{inl, inr}
+use Rattle.std.proofs.Common.{inl}
 use Rattle.dcr_net.proofs.PorterLemmas.{listened_failed}
 use Rattle.dcr_net.proofs.listen_porter.ListenPorter.listen.Goals as goal
 

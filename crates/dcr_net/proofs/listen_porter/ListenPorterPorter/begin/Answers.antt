@@ -1,4 +1,4 @@
-use Rattle.std.proofs.Common.{◌≡◌, false, true, is_some, refl, sym, rules, ◌∙◌}
+use Rattle.std.proofs.Common.{◌≡◌, false, true, is_some, refl, rules, ◌∙◌}
 use Rattle.std.specs.declared.io.Error.{Error}
 use Rattle.dcr_net.specs.ListenPorter.{listened}
 use Rattle.dcr_net.proofs.PorterLemmas.{begins_failed, begins_well, the_none, the_some}

@@ -1,0 +1,16 @@
+pub mod PlaceLemmas
+pub mod LinkLemmas
+pub mod LedLemmas
+pub mod CallLemmas
+pub mod VotedLemmas
+pub mod FitLemmas
+pub mod TellLemmas
+pub mod AcceptLemmas
+pub mod OrderLemmas
+pub mod BehindLemmas
+pub mod TendLemmas
+pub mod CloseLemmas
+pub mod BeginLemmas
+pub mod WelcomeLemmas
+pub mod EndLemmas
+pub mod OldLemmas

@@ -1,0 +1,2 @@
+pub mod PorterState
+pub mod MemPorterModel

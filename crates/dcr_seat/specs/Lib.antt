@@ -1,0 +1,4 @@
+pub mod InStep
+pub mod Exchange
+pub mod Asking
+pub mod Laws
